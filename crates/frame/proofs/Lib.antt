@@ -1,0 +1,3 @@
+pub mod Reopens
+pub mod Orders
+pub mod Sums

@@ -1,0 +1,5 @@
+pub mod Pages
+pub mod Opening
+pub mod Bursts
+pub mod Orders
+pub mod Low

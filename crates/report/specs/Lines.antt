@@ -1,0 +1,32 @@
+-- The lines of the report, byte for byte. Assumes nothing.
+use mathlib.Core.List.{List, [], _∷_, _++_}
+use Prim.Native.Nat.{ℕ, _/_, _%_}
+use lib.Chars.{codes}
+use Rattle.std.specs.Written.{decimal}
+use Rattle.clock.specs.Made.{period}
+use Rattle.std.specs.declared.option.Option.{Option}
+use Rattle.std.specs.declared.option.Option.the-variants.{Some, None}
+use Rattle.fault.specs.declared.Account.{Account}
+use Rattle.frame.specs.declared.make.Make.{Make}
+use Rattle.frame.specs.declared.make.Make.the-variants as make
+use Rattle.script.specs.declared.opening.Opening.{Opening}
+
+-- A or S
+abbrev pub letter : Make → ℕ
+letter make.A = 65
+letter make.S = 83
+
+-- chip, pages, clock in kHz, period in picoseconds: A 2 133000 7519
+abbrev pub heading : Opening → List ℕ
+heading o =
+    letter (o .make) ∷ codes " " ++ (decimal (o .pages) ++ (codes " " ++ (decimal (o .clock .khz) ++ (codes " " ++ decimal (period (o .clock .khz))))))
+
+-- the good bytes, where a refusal has them
+abbrev pub good-part : Option ℕ → List ℕ
+good-part None = []
+good-part (Some k) = codes " k=" ++ decimal k
+
+-- the number in two digits, the place, the good bytes: ! 10 @21, or ! 19 @30 k=1024
+abbrev pub refusal-line : Account → ℕ → List ℕ
+refusal-line a place =
+    codes "! " ++ (decimal (a .number / 10) ++ (decimal (a .number % 10) ++ (codes " @" ++ (decimal place ++ good-part (a .good)))))
