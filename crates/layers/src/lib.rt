@@ -1,0 +1,8 @@
+// Layers over any chip, each a chip again.
+mod scrambler;
+mod window;
+
+pub use scrambler::Scrambler;
+pub use scrambler::ScramblerChip;
+pub use window::Window;
+pub use window::WindowChip;
