@@ -1,0 +1,4 @@
+// Models of the two makes of chip, over a store.
+mod device;
+mod frames;
+mod step;
