@@ -4,5 +4,6 @@ mod window;
 
 pub use scrambler::Scrambler;
 pub use scrambler::ScramblerChip;
+pub use window::Returned;
 pub use window::Window;
 pub use window::WindowChip;

@@ -14,8 +14,8 @@ use chip::State;
 use fault::Fault;
 use frame::Burst;
 use frame::Make;
-use register::on_wire;
 use register::Coverage;
+use register::on_wire;
 
 // The most bytes of a write that any chip takes: 2 (532 - 3 - 3).
 const LONGEST: usize = 1_052;
@@ -54,6 +54,22 @@ impl Course {
 }
 
 impl<C: Chip> Scrambler<C> {
+    // A scrambler over this chip, with this key.
+    pub fn new(chip: C, key: [u8; 16]) -> Scrambler<C>
+        ensures chip { λ r. ⌜ r .chip ≡ chip ⌝ }
+        ensures key { λ r. ⌜ r .key ≡ key ⌝ }
+    {
+        Scrambler { chip, key }
+    }
+
+    // The chip below.
+    pub fn into_chip(self) -> C
+        ensures { λ r. ⌜ r ≡ self .chip ⌝ }
+    {
+        let Scrambler { chip, key: _ } = self;
+        chip
+    }
+
     // Where the bytes of a frame lie that is sent now: the chip goes by its MR8.
     fn course(&self, burst: Burst, start: u32) -> Course
         ensures key { λ r. ⌜ r .key ≡ now (self .entry) .key ⌝ }
@@ -69,7 +85,13 @@ impl<C: Chip> Scrambler<C> {
         }
     }
 
-    fn read(&mut self, gap: u32, burst: Burst, start: u32, buffer: &mut [u8]) -> Result<Reply, Fault>
+    fn read(
+        &mut self,
+        gap: u32,
+        burst: Burst,
+        start: u32,
+        buffer: &mut [u8],
+    ) -> Result<Reply, Fault>
         ensures { λ r. ⌜ Sends (scrambler (now (self .entry) .key) (C·Chip .meaning (now (self .entry) .chip))) gap (read burst start (length (now (buffer .entry)))) (now (buffer .entry)) r (scrambler (now (self .exit) .key) (C·Chip .meaning (now (self .exit) .chip))) (now (buffer .exit)) ⌝ }
     {
         let course = self.course(burst, start);
@@ -78,7 +100,15 @@ impl<C: Chip> Scrambler<C> {
         Ok(reply)
     }
 
-    fn write<'x>(&mut self, gap: u32, burst: Burst, start: u32, data: &'x [u8], mask: &'x [u8], buffer: &mut [u8]) -> Result<Reply, Fault>
+    fn write<'x>(
+        &mut self,
+        gap: u32,
+        burst: Burst,
+        start: u32,
+        data: &'x [u8],
+        mask: &'x [u8],
+        buffer: &mut [u8],
+    ) -> Result<Reply, Fault>
         ensures { λ r. ⌜ Sends (scrambler (now (self .entry) .key) (C·Chip .meaning (now (self .entry) .chip))) gap (write burst start (now («data» .entry)) (now (mask .entry))) (now (buffer .entry)) r (scrambler (now (self .exit) .key) (C·Chip .meaning (now (self .exit) .chip))) (now (buffer .exit)) ⌝ }
     {
         let length = data.len();
@@ -91,12 +121,20 @@ impl<C: Chip> Scrambler<C> {
         let mixed = &mut scratch[0..length];
         mixed.copy_from_slice(data);
         course.combine(mixed);
-        send_write(&mut self.chip, gap, burst, start, &scratch[0..length], mask, buffer)
+        send_write(&mut self.chip, gap, burst, start, mixed, mask, buffer)
     }
 }
 
 // Sends a write frame.
-fn send_write<'x, C: Chip>(chip: &mut C, gap: u32, burst: Burst, start: u32, data: &'x [u8], mask: &'x [u8], buffer: &mut [u8]) -> Result<Reply, Fault>
+fn send_write<'x, C: Chip>(
+    chip: &mut C,
+    gap: u32,
+    burst: Burst,
+    start: u32,
+    data: &'x [u8],
+    mask: &'x [u8],
+    buffer: &mut [u8],
+) -> Result<Reply, Fault>
     ensures { λ r. ⌜ Sends (C·Chip .meaning (now (chip .entry))) gap (write burst start (now («data» .entry)) (now (mask .entry))) (now (buffer .entry)) r (C·Chip .meaning (now (chip .exit))) (now (buffer .exit)) ⌝ }
 {
     chip.send(gap, write_frame(burst, start, data, mask), buffer)
@@ -111,7 +149,12 @@ fn read_frame(burst: Burst, start: u32) -> Frame<'static>
 fn write_frame<'a>(burst: Burst, start: u32, data: &'a [u8], mask: &'a [u8]) -> Frame<'a>
     ensures { λ r. ⌜ ((n : ℕ) → sent r n ≡ write burst start (now («data» .entry)) (now (mask .entry))) ⌝ }
 {
-    Frame::Write { burst, start, data, mask }
+    Frame::Write {
+        burst,
+        start,
+        data,
+        mask,
+    }
 }
 
 pub impl<C: Chip> Chip for Scrambler<C> as ScramblerChip {
@@ -132,8 +175,14 @@ pub impl<C: Chip> Chip for Scrambler<C> as ScramblerChip {
     fn send(&mut self, gap: u32, frame: Frame<'_>, buffer: &mut [u8]) -> Result<Reply, Fault> {
         match frame {
             Frame::Read { burst, start } => self.read(gap, burst, start, buffer),
-            Frame::Write { burst, start, data, mask } => self.write(gap, burst, start, data, mask, buffer),
-            Frame::RegisterRead { .. } | Frame::RegisterWrite { .. } | Frame::GlobalReset => self.chip.send(gap, frame, buffer),
+            Frame::Write {
+                burst,
+                start,
+                data,
+                mask,
+            } => self.write(gap, burst, start, data, mask, buffer),
+            Frame::RegisterRead { .. } | Frame::RegisterWrite { .. } | Frame::GlobalReset =>
+                self.chip.send(gap, frame, buffer),
         }
     }
 
