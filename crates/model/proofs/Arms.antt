@@ -2,9 +2,10 @@
 use mathlib.Core.Path.{_≡_, refl, sym, ap, subst, _∙_}
 use mathlib.Core.Bool.{Bool, true, false, cond, not, _||_}
 use mathlib.Core.List.{List, [], _∷_}
-use Prim.Native.Nat.{ℕ, _+_, _-_, _%_, _^_, min}
-use lib.Dec.{ltb}
-use Rattle.std.proofs.shelf.Tests.{and-left, cond-true, cond-false}
+use Prim.Native.Nat.{ℕ, _+_, _-_, _%_, _^_, _<_, min}
+use native.Mathlib.Omega.{arith}
+use lib.Dec.{eqb, leb, ltb}
+use Rattle.std.proofs.shelf.Tests.{and-left, or-parts, leb-false, cond-true, cond-false}
 use Rattle.std.specs.declared.option.Option.{Option}
 use Rattle.std.specs.declared.option.Option.the-variants.{Some, None}
 use Rattle.std.specs.declared.result.Result.{Result}
@@ -84,3 +85,10 @@ not-turned m gone = sym (cond-false _ _ _ (and-left _ _ gone))
 
 pub one-counted : (m : Model) → strobe-stays m ≡ true → min (m .answered + 1) (2 ^ 32 - 1) ≡ one-more m
 one-counted m there = sym (cond-true _ _ _ there)
+
+-- where no test holds, the start lies within the size
+pub good-start : (soon start count long register : Bool) (a whole : ℕ) → None ≡ first ((soon, TooSoon) ∷ (start, BadStart) ∷ (count, BadCount) ∷ (long, TooLong) ∷ (register, BadRegister) ∷ []) → start ≡ (eqb (a % 2) 1 || leb whole a) → a < whole
+unfolding first
+good-start true start count long register a whole none is = let z : _≡_ {A = ℕ} 0 1 = cc in absurd (omega arith)
+good-start false true count long register a whole none is = let z : _≡_ {A = ℕ} 0 1 = cc in absurd (omega arith)
+good-start false false count long register a whole none is = leb-false whole a (or-parts (eqb (a % 2) 1) (leb whole a) (sym is) .1)

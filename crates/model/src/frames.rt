@@ -1,6 +1,10 @@
 // The frames and the reset of a model.
 ghost use mathlib.Core.Path.{_≡_};
+ghost use mathlib.Core.Bool.{not, _||_};
+ghost use Prim.Native.Nat.{_%_};
+ghost use lib.Dec.{eqb};
 ghost use lib.ListN.{length};
+ghost use Rattle.mask.specs.Masks.{size};
 ghost use Rattle.chip.specs.Frames.{read, write, register-read, register-write, register, with-register};
 ghost use Rattle.chip.specs.Meaning.{read-latency, write-latency};
 ghost use Rattle.chip.specs.declared.parts.Phase.the-variants.{Awake};
@@ -19,6 +23,13 @@ use register::on_wire;
 use register::readable;
 use register::Mr0;
 use register::Mr4;
+
+// Whether a write has no bytes, an odd number of them, or a mask of another size.
+fn bad_count(bytes: usize, masks: usize) -> bool
+    ensures { λ r. ⌜ r ≡ (eqb bytes 0 || (eqb (bytes % 2) 1 || not (eqb masks (size bytes)))) ⌝ }
+{
+    bytes == 0 || bytes % 2 == 1 || masks != mask::size(bytes)
+}
 
 impl Device {
     // The latencies that MR0 and MR4 hold.
@@ -74,7 +85,7 @@ impl Device {
             latency: self.wl(),
             bytes,
         };
-        let count = bytes == 0 || bytes % 2 == 1 || mask.len() != mask::size(bytes);
+        let count = bad_count(bytes, mask.len());
         let refusal = first(self.too_soon(gap), self.bad_start(start), count, self.too_long(transfer), false);
         if let Some(refusal) = refusal {
             return Err(refusal.at(start));
