@@ -21,13 +21,18 @@ use Rattle.chip.specs.declared.parts.Reply.{Reply}
 use Rattle.chip.specs.declared.parts.State.{State}
 use Rattle.model.specs.Models.{Model, with-state, with-counts, strobe-stays, variable, choice, store-after, turn-after, one-more, answered-after, taken, buffer-after, judged, step, Steps, Moves}
 
--- awake, a frame that does not wake is refused by the other five tests
-pub refused-by : (k : Kind) (s : State) (gap : ℕ) (f : Sent) (soon start count long register : Bool) (o : Option Refusal) → s .phase ≡ Awake → wakes f ≡ false → soon ≡ ltb gap (least-gap k s) → start ≡ bad-start k f → count ≡ bad-count f → long ≡ too-long k s f → register ≡ bad-register f → o ≡ first ((soon, TooSoon) ∷ (start, BadStart) ∷ (count, BadCount) ∷ (long, TooLong) ∷ (register, BadRegister) ∷ []) → refused k s gap f ≡ o
+-- a frame that the phase takes is refused by the other five tests
+pub refused-taking : (k : Kind) (s : State) (gap : ℕ) (f : Sent) (soon start count long register : Bool) (o : Option Refusal) → takes (s .phase) (wakes f) ≡ true → soon ≡ ltb gap (least-gap k s) → start ≡ bad-start k f → count ≡ bad-count f → long ≡ too-long k s f → register ≡ bad-register f → o ≡ first ((soon, TooSoon) ∷ (start, BadStart) ∷ (count, BadCount) ∷ (long, TooLong) ∷ (register, BadRegister) ∷ []) → refused k s gap f ≡ o
 unfolding first
-refused-by k s gap f soon start count long register o awake sleeps a b c d e is =
-    (λ i. first ((not (takes (awake i) (sleeps i)), WrongPhase) ∷ (ltb gap (least-gap k s), TooSoon) ∷ (bad-start k f, BadStart) ∷ (bad-count f, BadCount) ∷ (too-long k s f, TooLong) ∷ (bad-register f, BadRegister) ∷ []))
+refused-taking k s gap f soon start count long register o taking a b c d e is =
+    (λ i. first ((not (taking i), WrongPhase) ∷ (ltb gap (least-gap k s), TooSoon) ∷ (bad-start k f, BadStart) ∷ (bad-count f, BadCount) ∷ (too-long k s f, TooLong) ∷ (bad-register f, BadRegister) ∷ []))
     ∙ (λ i. first ((sym a i, TooSoon) ∷ (sym b i, BadStart) ∷ (sym c i, BadCount) ∷ (sym d i, TooLong) ∷ (sym e i, BadRegister) ∷ []))
     ∙ sym is
+
+-- the same of a chip that is awake, and a frame that does not wake
+pub refused-by : (k : Kind) (s : State) (gap : ℕ) (f : Sent) (soon start count long register : Bool) (o : Option Refusal) → s .phase ≡ Awake → wakes f ≡ false → soon ≡ ltb gap (least-gap k s) → start ≡ bad-start k f → count ≡ bad-count f → long ≡ too-long k s f → register ≡ bad-register f → o ≡ first ((soon, TooSoon) ∷ (start, BadStart) ∷ (count, BadCount) ∷ (long, TooLong) ∷ (register, BadRegister) ∷ []) → refused k s gap f ≡ o
+refused-by k s gap f soon start count long register o awake sleeps =
+    refused-taking k s gap f soon start count long register o (λ i. takes (awake i) (sleeps i))
 
 module _ (m : Model) (gap : ℕ) (f : Sent) where
   pub moves-refused : (e : Refusal) (back : Fault) (n : Model) → refused (m .kind) (m .state) gap f ≡ Some e → back ≡ fault-at e (place f) → n ≡ m → Moves m gap f (Err back) n
@@ -92,3 +97,35 @@ unfolding first
 good-start true start count long register a whole none is = let z : _≡_ {A = ℕ} 0 1 = cc in absurd (omega arith)
 good-start false true count long register a whole none is = let z : _≡_ {A = ℕ} 0 1 = cc in absurd (omega arith)
 good-start false false count long register a whole none is = leb-false whole a (or-parts (eqb (a % 2) 1) (leb whole a) (sym is) .1)
+
+-- ---- any frame
+
+same-model : (o : Option Refusal) (m : Model) (f : Sent) (old : List ℕ) → judged o m f [] .model ≡ judged o m f old .model
+same-model (Some e) m f old = refl
+same-model None m f old = refl
+
+same-answer : (o : Option Refusal) (m : Model) (f : Sent) (old : List ℕ) → judged o m f [] .answer ≡ judged o m f old .answer
+same-answer (Some e) m f old = refl
+same-answer None m f old = refl
+
+same-buffer : (o : Option Refusal) (m : Model) (f : Sent) (old : List ℕ) → buffer-after m f old ≡ old → old ≡ judged o m f old .buffer
+same-buffer (Some e) m f old quiet = refl
+same-buffer None m f old quiet = sym quiet
+
+-- a frame that leaves the buffer alone, told as what was sent
+pub from-moves : (m n : Model) (gap : ℕ) (f g : Sent) (old : List ℕ) (r : Result Reply Fault) → f ≡ g → buffer-after m g old ≡ old → Moves m gap g r n → Steps m gap f old r n old
+from-moves m n gap f g old r is quiet moves =
+    subst (λ x. Steps m gap x old r n old) (sym is) (record {
+      model = moves .model ∙ same-model (refused (m .kind) (m .state) gap g) m g old;
+      answer = moves .answer ∙ same-answer (refused (m .kind) (m .state) gap g) m g old;
+      buffer = same-buffer (refused (m .kind) (m .state) gap g) m g old quiet;
+    })
+
+-- a frame that the phase does not take
+pub wrong-phase : (m : Model) (gap : ℕ) (f g : Sent) (old : List ℕ) (back : Fault) → f ≡ g → takes (m .state .phase) (wakes g) ≡ false → back ≡ fault-at WrongPhase (place g) → Steps m gap f old (Err back) m old
+unfolding first
+wrong-phase m gap f g old back is not-taken back-is =
+    subst (λ x. Steps m gap x old (Err back) m old) (sym is)
+    (steps-refused m gap g WrongPhase back m old
+      (λ i. first ((not (not-taken i), WrongPhase) ∷ (ltb gap (least-gap (m .kind) (m .state)), TooSoon) ∷ (bad-start (m .kind) g, BadStart) ∷ (bad-count g, BadCount) ∷ (too-long (m .kind) (m .state) g, TooLong) ∷ (bad-register g, BadRegister) ∷ []))
+      back-is refl)

@@ -46,7 +46,7 @@ impl Device {
     }
 
     // A read; the chip is awake.
-    fn read(&mut self, gap: u32, burst: Burst, start: u32, buffer: &mut [u8]) -> Result<Reply, Fault>
+    pub(crate) fn read(&mut self, gap: u32, burst: Burst, start: u32, buffer: &mut [u8]) -> Result<Reply, Fault>
         requires { ⌜ now self .state .phase ≡ Awake ⌝ }
         ensures { λ r. ⌜ Steps (inside (now (self .entry))) gap (read burst start (length (now (buffer .entry)))) (now (buffer .entry)) r (inside (now (self .exit))) (now (buffer .exit)) ⌝ }
     {
@@ -76,7 +76,7 @@ impl Device {
         Ok(Reply::Done)
     }
 
-    fn write(&mut self, gap: u32, burst: Burst, start: u32, data: &[u8], mask: &[u8]) -> Result<Reply, Fault>
+    pub(crate) fn write(&mut self, gap: u32, burst: Burst, start: u32, data: &[u8], mask: &[u8]) -> Result<Reply, Fault>
         requires { ⌜ now self .state .phase ≡ Awake ⌝ }
         ensures { λ r. ⌜ Moves (inside (now (self .entry))) gap (write burst start (now («data» .entry)) (now (mask .entry))) r (inside (now (self .exit))) ⌝ }
     {
@@ -97,7 +97,7 @@ impl Device {
         Ok(Reply::Done)
     }
 
-    fn read_register(&mut self, gap: u32, number: u8) -> Result<Reply, Fault>
+    pub(crate) fn read_register(&mut self, gap: u32, number: u8) -> Result<Reply, Fault>
         requires { ⌜ now self .state .phase ≡ Awake ⌝ }
         ensures { λ r. ⌜ Moves (inside (now (self .entry))) gap (register-read number) r (inside (now (self .exit))) ⌝ }
     {
@@ -130,7 +130,7 @@ impl Device {
         }
     }
 
-    fn write_register(&mut self, gap: u32, number: u8, value: u8) -> Result<Reply, Fault>
+    pub(crate) fn write_register(&mut self, gap: u32, number: u8, value: u8) -> Result<Reply, Fault>
         requires { ⌜ now self .state .phase ≡ Awake ⌝ }
         ensures { λ r. ⌜ Moves (inside (now (self .entry))) gap (register-write number value) r (inside (now (self .exit))) ⌝ }
     {

@@ -1,4 +1,6 @@
 // Models of the two makes of chip, over a store.
 mod device;
 mod frames;
+mod make;
 mod step;
+mod whole;
