@@ -1,3 +1,4 @@
 pub mod Stores
 pub mod Arms
 pub mod Ranges
+pub mod IsChip

@@ -10,7 +10,7 @@ use Rattle.std.specs.Of.Vec.{vec-items}
 use Rattle.std.specs.declared.option.Option.{Option}
 use Rattle.std.specs.declared.option.Option.the-variants.{Some, None}
 use Rattle.std.specs.declared.result.Result.{Result}
-use Rattle.std.specs.declared.result.Result.the-variants.{Err}
+use Rattle.std.specs.declared.result.Result.the-variants.{Ok, Err}
 use Rattle.clock.specs.Times.{clocks}
 use Rattle.fault.specs.Refusals.{fault-at}
 use Rattle.fault.specs.declared.Fault.{Fault}
@@ -19,6 +19,7 @@ use Rattle.mask.specs.Masks.{masked}
 use Rattle.register.specs.Registers.{mr0, kept}
 use Rattle.chip.specs.Frames.{Sent, read, write, register-read, register-write, global-reset, place, refused, fixed, Free, after, address, reply}
 use Rattle.chip.specs.Meaning.{Meaning, size, read-latency}
+use Rattle.chip.specs.Resets.{reset-refused, after-pulse}
 use Rattle.chip.specs.declared.parts.Kind.{Kind}
 use Rattle.chip.specs.declared.parts.Reply.{Reply}
 use Rattle.chip.specs.declared.parts.State.{State}
@@ -165,3 +166,29 @@ pub record Steps (m : Model) (gap : ℕ) (f : Sent) (old : List ℕ) (r : Result
 pub record Moves (m : Model) (gap : ℕ) (f : Sent) (r : Result Reply Fault) (n : Model) : Type 0 where
   pub model : n ≡ step m gap f [] .model
   pub answer : r ≡ step m gap f [] .answer
+
+-- ---- a reset
+
+-- the registers of the table, the strobe there, the wait due, and both counts at 0; the store stays
+abbrev pub restarted : Model → Model
+restarted m = record {
+  kind = m .kind;
+  state = after-pulse (m .kind) (m .state) true;
+  store = m .store;
+  word = m .word;
+  strobes = m .strobes;
+  turn = 0;
+  answered = 0;
+}
+
+-- what comes of a reset: the model and the answer
+abbrev pub reset-judged : Option Refusal → Model → (Model × Result (Unit {0}) Fault)
+reset-judged (Some e) m = (m, Err (fault-at e 0))
+reset-judged None m = (restarted m, Ok tt)
+
+abbrev pub reset-step : Model → ℕ → (Model × Result (Unit {0}) Fault)
+reset-step m pulse = reset-judged (reset-refused (m .kind) (m .state) pulse) m
+
+pub record Restarts (m : Model) (pulse : ℕ) (r : Result (Unit {0}) Fault) (n : Model) : Type 0 where
+  pub model : n ≡ reset-step m pulse .0
+  pub answer : r ≡ reset-step m pulse .1
