@@ -131,13 +131,13 @@ first ((test, refusal) ∷ rest) = cond test (Some refusal) (first rest)
 abbrev pub refused : Kind → State → ℕ → Sent → Option Refusal
 refused k s gap f =
     first (
-      (not (takes (s .phase) (wakes f)), WrongPhase)
-      ∷ (ltb gap (least-gap k s), TooSoon)
-      ∷ (bad-start k f, BadStart)
-      ∷ (bad-count f, BadCount)
-      ∷ (too-long k s f, TooLong)
-      ∷ (bad-register f, BadRegister)
-      ∷ []
+    (not (takes (s .phase) (wakes f)), WrongPhase)
+    ∷ (ltb gap (least-gap k s), TooSoon)
+    ∷ (bad-start k f, BadStart)
+    ∷ (bad-count f, BadCount)
+    ∷ (too-long k s f, TooLong)
+    ∷ (bad-register f, BadRegister)
+    ∷ []
     )
 
 -- ---- what a frame that is taken leaves free

@@ -39,10 +39,23 @@ pub struct State {
 // One frame. A read has as many bytes as the buffer that it fills.
 #[derive(Clone, Copy)]
 pub enum Frame<'a> {
-    Read { burst: Burst, start: u32 },
-    Write { burst: Burst, start: u32, data: &'a [u8], mask: &'a [u8] },
-    RegisterRead { number: u8 },
-    RegisterWrite { number: u8, value: u8 },
+    Read {
+        burst: Burst,
+        start: u32,
+    },
+    Write {
+        burst: Burst,
+        start: u32,
+        data: &'a [u8],
+        mask: &'a [u8],
+    },
+    RegisterRead {
+        number: u8,
+    },
+    RegisterWrite {
+        number: u8,
+        value: u8,
+    },
     GlobalReset,
 }
 

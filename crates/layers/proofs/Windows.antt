@@ -66,10 +66,10 @@ start-same : (by whole part a : ℕ) → by % 2 ≡ 0 → part + by ≡ whole �
 start-same by whole part a even parts most =
     ⊎-elim
     (λ inside.
-        let same : moved by a ≡ a + by = omega arith in
-        let odd : a % 2 ≡ moved by a % 2 = omega arith in
-        let out : leb part a ≡ leb whole (moved by a) = lt-leb part a inside ∙ sym (lt-leb whole (moved by a) (omega arith)) in
-        λ i. eqb (odd i) 1 || out i)
+    let same : moved by a ≡ a + by = omega arith in
+    let odd : a % 2 ≡ moved by a % 2 = omega arith in
+    let out : leb part a ≡ leb whole (moved by a) = lt-leb part a inside ∙ sym (lt-leb whole (moved by a) (omega arith)) in
+    λ i. eqb (odd i) 1 || out i)
     (λ past. or-right _ _ (le-leb part a past) ∙ sym (or-right _ _ (le-leb whole (moved by a) (omega arith))))
     (cases-lt a part)
 
@@ -107,19 +107,19 @@ range-moved h m c from count law below a low high =
     ⊎-elim
     (λ fits. below (a + shift h (m .kind)) (omega arith) (omega arith))
     (λ past.
-        let first = law .inside c (2 ^ 32 - 1) (below (2 ^ 32 - 1) (omega arith) (omega arith)) in
-        absurd (omega (arith, law .most)))
+    let first = law .inside c (2 ^ 32 - 1) (below (2 ^ 32 - 1) (omega arith) (omega arith)) in
+    absurd (omega (arith, law .most)))
     (cases-lt (from + shift h (m .kind)) (2 ^ 32))
 
 pub range-back : (h : ℕ) (m : Meaning) (c : Coverage) (from count : ℕ) → Lawful m → ((a : ℕ) → from ≤ a → a < from + count → m .refreshes c (a + shift h (m .kind)) ≡ true) → (a : ℕ) → moved (shift h (m .kind)) from ≤ a → a < moved (shift h (m .kind)) from + count → m .refreshes c a ≡ true
 range-back h m c from count law above a low high =
     ⊎-elim
     (λ fits.
-        let back : a - shift h (m .kind) + shift h (m .kind) ≡ a = omega arith in
-        subst (λ x. m .refreshes c x ≡ true) back (above (a - shift h (m .kind)) (omega arith) (omega arith)))
+    let back : a - shift h (m .kind) + shift h (m .kind) ≡ a = omega arith in
+    subst (λ x. m .refreshes c x ≡ true) back (above (a - shift h (m .kind)) (omega arith) (omega arith)))
     (λ past.
-        let first = law .inside c (from + shift h (m .kind)) (above from (omega arith) (omega arith)) in
-        absurd (omega (arith, law .most)))
+    let first = law .inside c (from + shift h (m .kind)) (above from (omega arith) (omega arith)) in
+    absurd (omega (arith, law .most)))
     (cases-lt (from + shift h (m .kind)) (2 ^ 32))
 
 pub refreshed-moved : (h : ℕ) (m : Meaning) (c : Coverage) (from count low : ℕ) (r : Bool) → Lawful m → low ≡ moved (shift h (m .kind)) from → Decides r ((a : ℕ) → low ≤ a → a < low + count → m .refreshes c a ≡ true) → Decides r ((a : ℕ) → from ≤ a → a < from + count → m .refreshes c (a + shift h (m .kind)) ≡ true)
@@ -225,13 +225,13 @@ taken-above h m n f free old new r law good t =
       };
       state = t .state ∙ after-below h (m .kind) (m .state) f free;
       bytes = λ a in-it.
-        ap (λ k. n .byte (a + shift h k)) same
-        ∙ t .bytes (a + by) (omega (arith, parts h (m .kind)))
-        ∙ (λ i. cond (holds-below by (m .refreshes) (m .state) (n .state) f a i) (stored-below h (m .kind) (m .state) (law .most) f a (m .byte (a + by)) good i) (free .byte (a + by)));
+          ap (λ k. n .byte (a + shift h k)) same
+          ∙ t .bytes (a + by) (omega (arith, parts h (m .kind)))
+          ∙ (λ i. cond (holds-below by (m .refreshes) (m .state) (n .state) f a i) (stored-below h (m .kind) (m .state) (law .most) f a (m .byte (a + by)) good i) (free .byte (a + by)));
       answer = ap (placed (place f)) (t .answer) ∙ reply-below h (m .kind) (m .state) (law .most) (n .state) f;
       buffer =
-        subst (λ k. Filled (window-kind h (m .kind)) (m .state) (n .state) f (λ a. n .byte (a + shift h k)) old new) (sym same)
-        (filled-below h (m .kind) (m .state) (law .most) (n .state) f (n .byte) old new good (t .buffer));
+          subst (λ k. Filled (window-kind h (m .kind)) (m .state) (n .state) f (λ a. n .byte (a + shift h k)) old new) (sym same)
+          (filled-below h (m .kind) (m .state) (law .most) (n .state) f (n .byte) old new good (t .buffer));
     }
 
 -- a frame that is judged below is judged so by the window
@@ -242,8 +242,8 @@ judged-above h m n f old new r None law good (free, t) = (free-above (shift h (m
 pub sends-above : (h gap : ℕ) (m n : Meaning) (f : Sent) (old new : List ℕ) (r : Result Reply Fault) → Lawful m → Sends m gap (lowered (shift h (m .kind)) f) old r n new → Sends (window h m) gap f old (placed (place f) r) (window h n) new
 sends-above h gap m n f old new r law below = record {
   judged =
-    judged-above h m n f old new r (refused (window-kind h (m .kind)) (m .state) gap f) law (good-start (window-kind h (m .kind)) (m .state) gap f)
-    (subst (λ o. Judged o m (lowered (shift h (m .kind)) f) old r n new) (sym (refused-below h (m .kind) (m .state) (law .most) gap f)) (below .judged));
+      judged-above h m n f old new r (refused (window-kind h (m .kind)) (m .state) gap f) law (good-start (window-kind h (m .kind)) (m .state) gap f)
+      (subst (λ o. Judged o m (lowered (shift h (m .kind)) f) old r n new) (sym (refused-below h (m .kind) (m .state) (law .most) gap f)) (below .judged));
 }
 
 -- the same of what the code works out: the shift, the frame that goes down, and the fault that comes back

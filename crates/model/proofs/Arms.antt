@@ -2,10 +2,10 @@
 use mathlib.Core.Path.{_≡_, refl, sym, ap, subst, _∙_}
 use mathlib.Core.Bool.{Bool, true, false, cond, not, _||_}
 use mathlib.Core.List.{List, [], _∷_}
-use Prim.Native.Nat.{ℕ, _+_, _-_, _%_, _^_, _<_, min}
+use Prim.Native.Nat.{ℕ, _+_, _-_, _%_, _^_, _≤_, _<_, min}
 use native.Mathlib.Omega.{arith}
 use lib.Dec.{eqb, leb, ltb}
-use Rattle.std.proofs.shelf.Tests.{and-left, or-parts, leb-false, cond-true, cond-false}
+use Rattle.std.proofs.shelf.Tests.{and-left, or-parts, leb-false, lt-ltb, le-ltb, cond-true, cond-false}
 use Rattle.std.specs.declared.option.Option.{Option}
 use Rattle.std.specs.declared.option.Option.the-variants.{Some, None}
 use Rattle.std.specs.declared.result.Result.{Result}
@@ -15,11 +15,12 @@ use Rattle.fault.specs.declared.Fault.{Fault}
 use Rattle.fault.specs.declared.Refusal.{Refusal}
 use Rattle.fault.specs.declared.Refusal.the-variants.{WrongPhase, TooSoon, BadStart, BadCount, TooLong, BadRegister}
 use Rattle.chip.specs.Frames.{Sent, wakes, takes, place, first, least-gap, bad-start, bad-count, too-long, bad-register, refused, after, counted, reply}
+use Rattle.chip.specs.Resets.{unwoken, reset-refused}
 use Rattle.chip.specs.declared.parts.Kind.{Kind}
-use Rattle.chip.specs.declared.parts.Phase.the-variants.{Awake}
+use Rattle.chip.specs.declared.parts.Phase.the-variants.{Unwoken, Awake}
 use Rattle.chip.specs.declared.parts.Reply.{Reply}
 use Rattle.chip.specs.declared.parts.State.{State}
-use Rattle.model.specs.Models.{Model, with-state, with-counts, strobe-stays, variable, choice, store-after, turn-after, one-more, answered-after, taken, buffer-after, judged, step, Steps, Moves}
+use Rattle.model.specs.Models.{Model, with-state, with-counts, strobe-stays, variable, choice, store-after, turn-after, one-more, answered-after, taken, buffer-after, judged, step, Steps, Moves, restarted, reset-judged, Restarts}
 
 -- a frame that the phase takes is refused by the other five tests
 pub refused-taking : (k : Kind) (s : State) (gap : ℕ) (f : Sent) (soon start count long register : Bool) (o : Option Refusal) → takes (s .phase) (wakes f) ≡ true → soon ≡ ltb gap (least-gap k s) → start ≡ bad-start k f → count ≡ bad-count f → long ≡ too-long k s f → register ≡ bad-register f → o ≡ first ((soon, TooSoon) ∷ (start, BadStart) ∷ (count, BadCount) ∷ (long, TooLong) ∷ (register, BadRegister) ∷ []) → refused k s gap f ≡ o
@@ -127,5 +128,40 @@ unfolding first
 wrong-phase m gap f g old back is not-taken back-is =
     subst (λ x. Steps m gap x old (Err back) m old) (sym is)
     (steps-refused m gap g WrongPhase back m old
-      (λ i. first ((not (not-taken i), WrongPhase) ∷ (ltb gap (least-gap (m .kind) (m .state)), TooSoon) ∷ (bad-start (m .kind) g, BadStart) ∷ (bad-count g, BadCount) ∷ (too-long (m .kind) (m .state) g, TooLong) ∷ (bad-register g, BadRegister) ∷ []))
-      back-is refl)
+    (λ i. first ((not (not-taken i), WrongPhase) ∷ (ltb gap (least-gap (m .kind) (m .state)), TooSoon) ∷ (bad-start (m .kind) g, BadStart) ∷ (bad-count g, BadCount) ∷ (too-long (m .kind) (m .state) g, TooLong) ∷ (bad-register g, BadRegister) ∷ []))
+    back-is refl)
+
+-- ---- a reset
+
+pub reset-back : (m n : Model) (pulse : ℕ) (back : Fault) (e : Refusal) → reset-refused (m .kind) (m .state) pulse ≡ Some e → back ≡ fault-at e 0 → n ≡ m → Restarts m pulse (Err back) n
+reset-back m n pulse back e is back-is same = record {
+  model = same ∙ ap (λ o. reset-judged o m .0) (sym is);
+  answer = ap Err back-is ∙ ap (λ o. reset-judged o m .1) (sym is);
+}
+
+pub reset-done : (m n : Model) (pulse : ℕ) → reset-refused (m .kind) (m .state) pulse ≡ None → n ≡ restarted m → Restarts m pulse (Ok tt) n
+reset-done m n pulse is so = record {
+  model = so ∙ ap (λ o. reset-judged o m .0) (sym is);
+  answer = ap (λ o. reset-judged o m .1) (sym is);
+}
+
+pub asleep-refused : (k : Kind) (s : State) (pulse : ℕ) → s .phase ≡ Unwoken → reset-refused k s pulse ≡ Some WrongPhase
+unfolding first
+asleep-refused k s pulse is = λ i. first ((unwoken (is i), WrongPhase) ∷ (ltb pulse (k .clock .trp), TooSoon) ∷ [])
+
+pub short-refused : (k : Kind) (s : State) (pulse : ℕ) → s .phase ≡ Awake → pulse < k .clock .trp → reset-refused k s pulse ≡ Some TooSoon
+unfolding first
+short-refused k s pulse is short = λ i. first ((unwoken (is i), WrongPhase) ∷ (lt-ltb pulse (k .clock .trp) short i, TooSoon) ∷ [])
+
+pub long-taken : (k : Kind) (s : State) (pulse : ℕ) → s .phase ≡ Awake → k .clock .trp ≤ pulse → reset-refused k s pulse ≡ None
+unfolding first
+long-taken k s pulse is long = λ i. first ((unwoken (is i), WrongPhase) ∷ (le-ltb pulse (k .clock .trp) long i, TooSoon) ∷ [])
+
+-- ---- the kind stays
+
+same-kind : (o : Option Refusal) (m : Model) (f : Sent) (old : List ℕ) → judged o m f old .model .kind ≡ m .kind
+same-kind (Some e) m f old = refl
+same-kind None m f old = refl
+
+pub kind-stays : (m n : Model) (gap : ℕ) (f : Sent) (old new : List ℕ) (r : Result Reply Fault) → Steps m gap f old r n new → n .kind ≡ m .kind
+kind-stays m n gap f old new r steps = ap (λ x. x .kind) (steps .model) ∙ same-kind (refused (m .kind) (m .state) gap f) m f old

@@ -22,9 +22,11 @@ use Rattle.mask.specs.Masks.{masked}
 use Rattle.register.specs.Registers.{mr0, kept}
 use Rattle.register.specs.declared.fields.Coverage.{Coverage}
 use Rattle.register.specs.declared.fields.Coverage.the-variants.{All, BottomHalf, BottomQuarter, BottomEighth, Nothing, TopHalf, TopQuarter, TopEighth}
-use Rattle.chip.specs.Frames.{Sent, read, write, register-read, register-write, global-reset, refused, Free, fixed, Allowed, after, address, written, stored, reply, Filled, Taken, Judged, Sends}
+use Rattle.chip.specs.Frames.{Sent, sent, read, write, register-read, register-write, global-reset, refused, Free, fixed, Allowed, after, address, written, stored, reply, Filled, Taken, Judged, Sends}
 use Rattle.chip.specs.Meaning.{Lawful, size, largest-size, read-latency}
 use Rattle.chip.specs.Resets.{reset-refused, Reset-judged, Resets}
+use Rattle.chip.specs.declared.parts.Frame.{Frame}
+use Rattle.chip.specs.declared.parts.Frame.the-variants as frame
 use Rattle.chip.specs.declared.parts.Kind.{Kind}
 use Rattle.chip.specs.declared.parts.Reply.{Reply}
 use Rattle.chip.specs.declared.parts.State.{State}
@@ -218,3 +220,11 @@ pub resets : (m n : Model) (pulse : ℕ) (r : Result (Unit {0}) Fault) → Resta
 resets m n pulse r restarts = record {
   judged = reset-judges m n r (reset-refused (m .kind) (m .state) pulse) (restarts .model) (restarts .answer);
 }
+
+-- what is sent of a frame counts the bytes of its buffer
+pub counts-sent : (f : Frame) (n : ℕ) → Counts (sent f n) n
+counts-sent (frame.Read b a) n = refl
+counts-sent (frame.Write b a d k) n = tt
+counts-sent (frame.RegisterRead k) n = tt
+counts-sent (frame.RegisterWrite k v) n = tt
+counts-sent frame.GlobalReset n = tt

@@ -17,12 +17,12 @@ use fault::Fault;
 use fault::Refusal;
 use frame::Burst;
 use frame::Transfer;
+use register::Mr0;
+use register::Mr4;
 use register::accepts;
 use register::after_reset;
 use register::on_wire;
 use register::readable;
-use register::Mr0;
-use register::Mr4;
 
 // Whether a write has no bytes, an odd number of them, or a mask of another size.
 fn bad_count(bytes: usize, masks: usize) -> bool
@@ -46,7 +46,13 @@ impl Device {
     }
 
     // A read; the chip is awake.
-    pub(crate) fn read(&mut self, gap: u32, burst: Burst, start: u32, buffer: &mut [u8]) -> Result<Reply, Fault>
+    pub(crate) fn read(
+        &mut self,
+        gap: u32,
+        burst: Burst,
+        start: u32,
+        buffer: &mut [u8],
+    ) -> Result<Reply, Fault>
         requires { ⌜ now self .state .phase ≡ Awake ⌝ }
         ensures { λ r. ⌜ Steps (inside (now (self .entry))) gap (read burst start (length (now (buffer .entry)))) (now (buffer .entry)) r (inside (now (self .exit))) (now (buffer .exit)) ⌝ }
     {
@@ -55,7 +61,13 @@ impl Device {
             latency: 2 * self.lc().clocks(),
             bytes,
         };
-        let refusal = first(self.too_soon(gap), self.bad_start(start), bytes == 0, self.too_long(longest), false);
+        let refusal = first(
+            self.too_soon(gap),
+            self.bad_start(start),
+            bytes == 0,
+            self.too_long(longest),
+            false,
+        );
         if let Some(refusal) = refusal {
             return Err(refusal.at(start));
         }
@@ -64,8 +76,7 @@ impl Device {
         let low = Transfer::Read {
             latency: self.latency(),
             bytes,
-        }
-        .low_clocks();
+        }.low_clocks();
         let wire = on_wire(burst, self.state.mr8);
         self.count(low, strobe);
         if !strobe {
@@ -76,7 +87,14 @@ impl Device {
         Ok(Reply::Done)
     }
 
-    pub(crate) fn write(&mut self, gap: u32, burst: Burst, start: u32, data: &[u8], mask: &[u8]) -> Result<Reply, Fault>
+    pub(crate) fn write(
+        &mut self,
+        gap: u32,
+        burst: Burst,
+        start: u32,
+        data: &[u8],
+        mask: &[u8],
+    ) -> Result<Reply, Fault>
         requires { ⌜ now self .state .phase ≡ Awake ⌝ }
         ensures { λ r. ⌜ Moves (inside (now (self .entry))) gap (write burst start (now («data» .entry)) (now (mask .entry))) r (inside (now (self .exit))) ⌝ }
     {
@@ -86,7 +104,13 @@ impl Device {
             bytes,
         };
         let count = bad_count(bytes, mask.len());
-        let refusal = first(self.too_soon(gap), self.bad_start(start), count, self.too_long(transfer), false);
+        let refusal = first(
+            self.too_soon(gap),
+            self.bad_start(start),
+            count,
+            self.too_long(transfer),
+            false,
+        );
         if let Some(refusal) = refusal {
             return Err(refusal.at(start));
         }
@@ -101,10 +125,14 @@ impl Device {
         requires { ⌜ now self .state .phase ≡ Awake ⌝ }
         ensures { λ r. ⌜ Moves (inside (now (self .entry))) gap (register-read number) r (inside (now (self .exit))) ⌝ }
     {
-        let transfer = Transfer::RegisterRead {
-            latency: self.lc(),
-        };
-        let refusal = first(self.too_soon(gap), false, false, self.too_long(transfer), !readable(number));
+        let transfer = Transfer::RegisterRead { latency: self.lc() };
+        let refusal = first(
+            self.too_soon(gap),
+            false,
+            false,
+            self.too_long(transfer),
+            !readable(number),
+        );
         if let Some(refusal) = refusal {
             return Err(refusal.at(0));
         }
@@ -135,7 +163,13 @@ impl Device {
         ensures { λ r. ⌜ Moves (inside (now (self .entry))) gap (register-write number value) r (inside (now (self .exit))) ⌝ }
     {
         let transfer = Transfer::RegisterWrite;
-        let refusal = first(self.too_soon(gap), false, false, self.too_long(transfer), !accepts(number, value));
+        let refusal = first(
+            self.too_soon(gap),
+            false,
+            false,
+            self.too_long(transfer),
+            !accepts(number, value),
+        );
         if let Some(refusal) = refusal {
             return Err(refusal.at(0));
         }

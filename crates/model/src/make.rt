@@ -53,7 +53,14 @@ fn asleep(make: Make) -> State
 impl Device {
     // A model over a store, not woken yet. Refused by 1 where the store is not 1 page to 16 MiB of
     // whole pages, then by 2 and 3 for the clock; the store comes back.
-    pub fn new(make: Make, store: Vec<u8>, khz: u32, range: Range, word: u32, strobes: u16) -> Result<Device, Unmade>
+    pub fn new(
+        make: Make,
+        store: Vec<u8>,
+        khz: u32,
+        range: Range,
+        word: u32,
+        strobes: u16,
+    ) -> Result<Device, Unmade>
         ensures { λ r. ⌜ Cases r (λ d. (unmade make (length (vec-items store)) khz range ≡ None) × Fresh make (vec-items store) khz range word strobes d) (λ u. (unmade make (length (vec-items store)) khz range ≡ Some (u .fault .refusal)) × (u .fault .place ≡ 0) × (vec-items (u .store) ≡ vec-items store)) ⌝ }
     {
         let length = store.len();

@@ -23,7 +23,13 @@ use register::LatencyType;
 use register::Mr0;
 
 // The first of the tests of a frame that holds, after the one of its phase: 14 to 18.
-pub(crate) fn first(soon: bool, start: bool, count: bool, long: bool, register: bool) -> Option<Refusal>
+pub(crate) fn first(
+    soon: bool,
+    start: bool,
+    count: bool,
+    long: bool,
+    register: bool,
+) -> Option<Refusal>
     ensures { λ r. ⌜ r ≡ first ((soon, TooSoon) ∷ (start, BadStart) ∷ (count, BadCount) ∷ (long, TooLong) ∷ (register, BadRegister) ∷ []) ⌝ }
 {
     if soon {
@@ -53,7 +59,10 @@ impl Device {
             Phase::Unwoken => clock.tpu,
             Phase::Awake => 0,
         };
-        u64::from(gap) < u64::from(clock.tcph).max(cycle).max(u64::from(settle.max(power_up)))
+        u64::from(gap)
+            < u64::from(clock.tcph)
+                .max(cycle)
+                .max(u64::from(settle.max(power_up)))
     }
 
     // Whether the strobe is there once a frame has started: it goes when as many reads are
@@ -117,7 +126,11 @@ impl Device {
     pub(crate) fn answer(&mut self, varies: bool)
         ensures { λ _. ⌜ inside (now (self .exit)) ≡ with-counts (inside (now (self .entry))) (cond varies ((now (self .entry) .turn + 1) % 32) (now (self .entry) .turn)) (min (now (self .entry) .answered + 1) (2 ^ 32 - 1)) ⌝ }
     {
-        let turn = if varies { (self.turn + 1) % 32 } else { self.turn };
+        let turn = if varies {
+            (self.turn + 1) % 32
+        } else {
+            self.turn
+        };
         self.turn = turn;
         self.answered = self.answered.saturating_add(1);
     }

@@ -3,7 +3,7 @@ ghost use mathlib.Core.Path.{_≡_};
 ghost use lib.ListN.{length};
 ghost use Rattle.chip.specs.Frames.{sent, global-reset, reset-value};
 ghost use Rattle.chip.specs.declared.parts.Phase.the-variants.{Unwoken};
-ghost use Rattle.model.specs.Models.{inside, Steps, Moves};
+ghost use Rattle.model.specs.Models.{inside, Steps, Moves, Restarts};
 use crate::device::Device;
 use crate::step::first;
 use chip::Frame;
@@ -30,7 +30,13 @@ impl Device {
         ensures { λ r. ⌜ Moves (inside (now (self .entry))) gap global-reset r (inside (now (self .exit))) ⌝ }
     {
         let transfer = Transfer::GlobalReset;
-        let refusal = first(self.too_soon(gap), false, false, self.too_long(transfer), false);
+        let refusal = first(
+            self.too_soon(gap),
+            false,
+            false,
+            self.too_long(transfer),
+            false,
+        );
         if let Some(refusal) = refusal {
             return Err(refusal.at(0));
         }
@@ -64,9 +70,44 @@ impl Device {
             (Phase::Unwoken, Frame::RegisterWrite { .. }) => Err(Refusal::WrongPhase.at(0)),
             (Phase::Awake, Frame::GlobalReset) => Err(Refusal::WrongPhase.at(0)),
             (Phase::Awake, Frame::Read { burst, start }) => self.read(gap, burst, start, buffer),
-            (Phase::Awake, Frame::Write { burst, start, data, mask }) => self.write(gap, burst, start, data, mask),
+            (
+                Phase::Awake,
+                Frame::Write {
+                    burst,
+                    start,
+                    data,
+                    mask,
+                },
+            ) => self.write(gap, burst, start, data, mask),
             (Phase::Awake, Frame::RegisterRead { number }) => self.read_register(gap, number),
-            (Phase::Awake, Frame::RegisterWrite { number, value }) => self.write_register(gap, number, value),
+            (Phase::Awake, Frame::RegisterWrite { number, value }) => self.write_register(
+                gap,
+                number,
+                value,
+            ),
         }
+    }
+
+    // Resets by a pulse on RESET#: the registers are those of the table, the strobe is there, and
+    // reads are counted anew.
+    pub fn reset(&mut self, pulse: u32) -> Result<(), Fault>
+        ensures { λ r. ⌜ Restarts (inside (now (self .entry))) pulse r (inside (now (self .exit))) ⌝ }
+    {
+        match self.state.phase {
+            Phase::Unwoken => return Err(Refusal::WrongPhase.at(0)),
+            Phase::Awake => {}
+        }
+        if pulse < self.kind.clock.trp {
+            return Err(Refusal::TooSoon.at(0));
+        }
+        let make = self.kind.make;
+        self.state.mr0 = reset_value(make, 0);
+        self.state.mr4 = reset_value(make, 4);
+        self.state.mr8 = reset_value(make, 8);
+        self.state.strobe = true;
+        self.state.settling = true;
+        self.turn = 0;
+        self.answered = 0;
+        Ok(())
     }
 }

@@ -59,9 +59,9 @@ returns c =
     let free : refused (d .kind) (d .state) (c .args .gap) f ≡ None = refused-by (d .kind) (d .state) (c .args .gap) f _ _ _ _ false _ (c .pre) refl (c .too-soon .ensures) (c .bad-start .ensures) refl long refl (c .in-rest .ensures tt) in
     steps-taken (inside d) (c .args .gap) f _ _ (c .args .buffer .now) _ free
     (answered-taken (inside d) f _ _ (counted (d .state) (c .low-clocks-low .result) (c .strobe-stays-strobe .result)) (c .variable-varies .result) (c .answer .ensures) (c .count .ensures) (same-counted (d .state) _ _ _ _ low (c .strobe-stays-strobe .ensures)) refl
-      (ap (λ v. cond v ((d .turn + 1) % 32) (d .turn)) (c .variable-varies .ensures)) (one-counted (inside d) there))
+    (ap (λ v. cond v ((d .turn + 1) % 32) (d .turn)) (c .variable-varies .ensures)) (one-counted (inside d) there))
     (sym (cond-true _ _ _ there))
     (c .fill .ensures
-      ∙ ap (λ x. map (λ i. getD (x .store) (at (x .kind .make) (c .on-wire-wire .result) (c .args .start) i) 0) (counting 0 n)) (c .count .ensures)
-      ∙ ap (λ w. map (λ i. getD (vec-items (d .store)) (at (d .kind .make) w (c .args .start) i) 0) (counting 0 n)) (c .on-wire-wire .ensures)
-      ∙ sym (cond-true _ _ _ there))
+    ∙ ap (λ x. map (λ i. getD (x .store) (at (x .kind .make) (c .on-wire-wire .result) (c .args .start) i) 0) (counting 0 n)) (c .count .ensures)
+    ∙ ap (λ w. map (λ i. getD (vec-items (d .store)) (at (d .kind .make) w (c .args .start) i) 0) (counting 0 n)) (c .on-wire-wire .ensures)
+    ∙ sym (cond-true _ _ _ there))

@@ -35,7 +35,7 @@ returns c =
     let free : refused (d .kind) (d .state) (c .args .gap) f ≡ None = refused-by (d .kind) (d .state) (c .args .gap) f _ _ _ _ false _ (c .pre) refl (c .too-soon .ensures) (c .bad-start .ensures) (c .bad-count-count .ensures) long refl (c .in-rest .ensures tt) in
     moves-taken (inside d) (c .args .gap) f _ _ free
     (parts-taken (inside d) f _ (counted (d .state) (c .low-clocks .result) (c .strobe-stays-strobe .result)) _ _ _
-      (c .count .ensures ∙ ap (λ x. with-state x (counted (x .state) (c .low-clocks .result) (c .strobe-stays-strobe .result))) (c .put .ensures))
-      (same-counted (d .state) _ _ _ _ low (c .strobe-stays-strobe .ensures))
-      (ap (λ w. put (at (d .kind .make) w (c .args .start)) bytes mask (length bytes) (vec-items (d .store))) (c .on-wire-wire .ensures)) refl refl)
+    (c .count .ensures ∙ ap (λ x. with-state x (counted (x .state) (c .low-clocks .result) (c .strobe-stays-strobe .result))) (c .put .ensures))
+    (same-counted (d .state) _ _ _ _ low (c .strobe-stays-strobe .ensures))
+    (ap (λ w. put (at (d .kind .make) w (c .args .start)) bytes mask (length bytes) (vec-items (d .store))) (c .on-wire-wire .ensures)) refl refl)
     refl
