@@ -8,6 +8,7 @@ ghost use Rattle.mask.specs.Masks.{size};
 ghost use Rattle.chip.specs.Frames.{read, write, register-read, register-write, register, with-register};
 ghost use Rattle.chip.specs.Meaning.{read-latency, write-latency};
 ghost use Rattle.chip.specs.declared.parts.Phase.the-variants.{Awake};
+ghost use Rattle.register.specs.Registers.{on-wire};
 ghost use Rattle.model.specs.Models.{inside, with-state, Steps, Moves};
 use crate::device::Device;
 use crate::step::first;
@@ -45,6 +46,13 @@ impl Device {
         Mr4::of(self.state.mr4).wl
     }
 
+    // The burst on the wire of a frame that carries `burst`.
+    fn wire(&self, burst: Burst) -> Burst
+        ensures { λ r. ⌜ r ≡ on-wire burst (now (self .entry) .state .mr8) ⌝ }
+    {
+        on_wire(burst, self.state.mr8)
+    }
+
     // A read; the chip is awake.
     pub(crate) fn read(
         &mut self,
@@ -77,7 +85,7 @@ impl Device {
             latency: self.latency(),
             bytes,
         }.low_clocks();
-        let wire = on_wire(burst, self.state.mr8);
+        let wire = self.wire(burst);
         self.count(low, strobe);
         if !strobe {
             return Err(Refusal::NoStrobe(0).at(start));
@@ -115,7 +123,7 @@ impl Device {
             return Err(refusal.at(start));
         }
         let strobe = self.strobe_stays();
-        let wire = on_wire(burst, self.state.mr8);
+        let wire = self.wire(burst);
         self.put(wire, start, data, mask);
         self.count(transfer.low_clocks(), strobe);
         Ok(Reply::Done)

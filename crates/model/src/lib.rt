@@ -3,12 +3,13 @@ mod asks;
 mod device;
 mod frames;
 mod make;
-mod models;
+mod model_a;
+mod model_s;
 mod step;
 mod whole;
 
 pub use make::Unmade;
-pub use models::ModelA;
-pub use models::ModelAChip;
-pub use models::ModelS;
-pub use models::ModelSChip;
+pub use model_a::ModelA;
+pub use model_a::ModelAChip;
+pub use model_s::ModelS;
+pub use model_s::ModelSChip;

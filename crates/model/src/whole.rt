@@ -3,7 +3,7 @@ ghost use mathlib.Core.Path.{_≡_};
 ghost use lib.ListN.{length};
 ghost use Rattle.chip.specs.Frames.{sent, global-reset, reset-value};
 ghost use Rattle.chip.specs.declared.parts.Phase.the-variants.{Unwoken};
-ghost use Rattle.model.specs.Models.{inside, Steps, Moves, Restarts};
+ghost use Rattle.model.specs.Models.{inside, taken, restarted, Steps, Moves, Restarts};
 use crate::device::Device;
 use crate::step::first;
 use chip::Frame;
@@ -40,6 +40,14 @@ impl Device {
         if let Some(refusal) = refusal {
             return Err(refusal.at(0));
         }
+        self.begin();
+        Ok(Reply::Done)
+    }
+
+    // The chip is woken: the registers are those of the table, and counting begins.
+    fn begin(&mut self)
+        ensures { λ _. ⌜ inside (now (self .exit)) ≡ taken (inside (now (self .entry))) global-reset ⌝ }
+    {
         let strobe = self.strobe_stays();
         let make = self.kind.make;
         self.state = State {
@@ -49,13 +57,27 @@ impl Device {
             phase: Phase::Awake,
             strobe,
             settling: true,
-            low: transfer.low_clocks(),
+            low: Transfer::GlobalReset.low_clocks(),
             frames: 0,
             clocks: 0,
         };
         self.turn = 0;
         self.answered = 0;
-        Ok(Reply::Done)
+    }
+
+    // The chip is reset: the registers are those of the table, the strobe is there, and reads are
+    // counted anew.
+    fn restart(&mut self)
+        ensures { λ _. ⌜ inside (now (self .exit)) ≡ restarted (inside (now (self .entry))) ⌝ }
+    {
+        let make = self.kind.make;
+        self.state.mr0 = reset_value(make, 0);
+        self.state.mr4 = reset_value(make, 4);
+        self.state.mr8 = reset_value(make, 8);
+        self.state.strobe = true;
+        self.state.settling = true;
+        self.turn = 0;
+        self.answered = 0;
     }
 
     // Sends one frame: what it does depends on the phase and the frame together.
@@ -88,8 +110,7 @@ impl Device {
         }
     }
 
-    // Resets by a pulse on RESET#: the registers are those of the table, the strobe is there, and
-    // reads are counted anew.
+    // Resets by a pulse on RESET#.
     pub fn reset(&mut self, pulse: u32) -> Result<(), Fault>
         ensures { λ r. ⌜ Restarts (inside (now (self .entry))) pulse r (inside (now (self .exit))) ⌝ }
     {
@@ -100,14 +121,7 @@ impl Device {
         if pulse < self.kind.clock.trp {
             return Err(Refusal::TooSoon.at(0));
         }
-        let make = self.kind.make;
-        self.state.mr0 = reset_value(make, 0);
-        self.state.mr4 = reset_value(make, 4);
-        self.state.mr8 = reset_value(make, 8);
-        self.state.strobe = true;
-        self.state.settling = true;
-        self.turn = 0;
-        self.answered = 0;
+        self.restart();
         Ok(())
     }
 }

@@ -62,6 +62,6 @@ returns c =
     (ap (λ v. cond v ((d .turn + 1) % 32) (d .turn)) (c .variable-varies .ensures)) (one-counted (inside d) there))
     (sym (cond-true _ _ _ there))
     (c .fill .ensures
-    ∙ ap (λ x. map (λ i. getD (x .store) (at (x .kind .make) (c .on-wire-wire .result) (c .args .start) i) 0) (counting 0 n)) (c .count .ensures)
-    ∙ ap (λ w. map (λ i. getD (vec-items (d .store)) (at (d .kind .make) w (c .args .start) i) 0) (counting 0 n)) (c .on-wire-wire .ensures)
+    ∙ ap (λ x. map (λ i. getD (x .store) (at (x .kind .make) (c .wire-wire .result) (c .args .start) i) 0) (counting 0 n)) (c .count .ensures)
+    ∙ ap (λ w. map (λ i. getD (vec-items (d .store)) (at (d .kind .make) w (c .args .start) i) 0) (counting 0 n)) (c .wire-wire .ensures)
     ∙ sym (cond-true _ _ _ there))

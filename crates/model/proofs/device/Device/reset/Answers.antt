@@ -1,5 +1,4 @@
 use mathlib.Core.Path.{refl}
-use mathlib.Core.Bool.{true}
 use Rattle.model.specs.Models.{inside}
 use Rattle.model.proofs.Arms.{reset-back, reset-done, asleep-refused, short-refused, long-taken}
 use Rattle.model.proofs.device.Device.reset.Needs as need
@@ -18,22 +17,4 @@ pub returns : need.returns
 returns c =
     let d = c .args .self .now in
     reset-done (inside d) _ (c .args .pulse) (long-taken (d .kind) (d .state) (c .args .pulse) (c .in-Awake .is) (c .if-pulse-self .left))
-    (λ i. record {
-      kind = d .kind;
-      state = record {
-        mr0 = c .reset-value-self .ensures i;
-        mr4 = c .reset-value-self-2 .ensures i;
-        mr8 = c .reset-value-self-3 .ensures i;
-        phase = d .state .phase;
-        strobe = true;
-        settling = true;
-        low = d .state .low;
-        frames = d .state .frames;
-        clocks = d .state .clocks;
-      };
-      store = inside d .store;
-      word = d .word;
-      strobes = d .strobes;
-      turn = 0;
-      answered = 0;
-    })
+    (c .restart .ensures)

@@ -37,5 +37,5 @@ returns c =
     (parts-taken (inside d) f _ (counted (d .state) (c .low-clocks .result) (c .strobe-stays-strobe .result)) _ _ _
     (c .count .ensures ∙ ap (λ x. with-state x (counted (x .state) (c .low-clocks .result) (c .strobe-stays-strobe .result))) (c .put .ensures))
     (same-counted (d .state) _ _ _ _ low (c .strobe-stays-strobe .ensures))
-    (ap (λ w. put (at (d .kind .make) w (c .args .start)) bytes mask (length bytes) (vec-items (d .store))) (c .on-wire-wire .ensures)) refl refl)
+    (ap (λ w. put (at (d .kind .make) w (c .args .start)) bytes mask (length bytes) (vec-items (d .store))) (c .wire-wire .ensures)) refl refl)
     refl

@@ -3,8 +3,8 @@ use lib.ListN.{length}
 use Rattle.frame.specs.Pages.{page}
 use Rattle.model.specs.Models.{inside}
 use Rattle.model.proofs.Arms.{kind-stays}
-use Rattle.model.proofs.IsChip.{sends, counts-sent}
-use Rattle.model.proofs.models.ModelAChip.send.Needs as need
+use Rattle.model.proofs.IsChip.{sends, counts-sent, last-write-wins}
+use Rattle.model.proofs.model_a.ModelAChip.send.Needs as need
 
 pub ghost-self : need.ghost-self
 ghost-self c =
@@ -17,4 +17,5 @@ returns c =
     record {
       sends = sends (inside d) _ _ _ _ _ _ (sym (d .store .ok .0) ∙ d .whole) (counts-sent (c .args .frame) (length (c .args .buffer .now))) (c .send .ensures);
       exact = c .send .ensures;
+      wins = last-write-wins;
     }
