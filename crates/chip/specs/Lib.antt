@@ -1,3 +1,6 @@
 pub mod Meaning
 pub mod Frames
 pub mod Resets
+pub mod Runs
+pub mod Wire
+pub mod Exchanges
