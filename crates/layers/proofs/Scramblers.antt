@@ -45,7 +45,7 @@ use Rattle.layers.specs.Scramblers.{key-at, scrambler, Combined}
 -- ---- bytes
 
 -- a byte that is combined twice is the byte
-twice : (x k : ℕ) → bitXor (bitXor x k) k ≡ x
+pub twice : (x k : ℕ) → bitXor (bitXor x k) k ≡ x
 twice x k = xor-assoc x k k ∙ ap (bitXor x) (xor-self k) ∙ xor-zero-r x
 
 either-mixed : (b : Bool) (x y k : ℕ) → bitXor (cond b x y) k ≡ cond b (bitXor x k) (bitXor y k)
@@ -164,7 +164,7 @@ stands-read : (key : List ℕ) (m : Meaning) (b : Burst) (a n : ℕ) → Stands 
 stands-read key m b a n = record { leaves = λ _. refl; stores = λ _ _. refl; keeps = λ _ _. refl; answers = λ _. refl; placed = refl }
 
 -- the answer to a read tells whether the strobe came
-strobe-there : (b : Bool) (x y : Reply) (e : Fault) → Ok x ≡ cond b (Ok y) (Err e) → b ≡ true
+pub strobe-there : (b : Bool) (x y : Reply) (e : Fault) → Ok x ≡ cond b (Ok y) (Err e) → b ≡ true
 strobe-there true x y e is = refl
 strobe-there false x y e is = let z : _≡_ {A = ℕ} 0 1 = cc in absurd (omega arith)
 
@@ -172,7 +172,7 @@ strobe-gone : (b : Bool) (y : Reply) (d e : Fault) → Err d ≡ cond b (Ok y) (
 strobe-gone true y d e is = let z : _≡_ {A = ℕ} 0 1 = cc in absurd (omega arith)
 strobe-gone false y d e is = refl
 
-never-refused : (x : Reply) (e : Fault) → _≡_ {A = Result Reply Fault} (Ok x) (Err e) → ⊥
+pub never-refused : (x : Reply) (e : Fault) → _≡_ {A = Result Reply Fault} (Ok x) (Err e) → ⊥
 never-refused x e is = let z : _≡_ {A = ℕ} 0 1 = cc in omega arith
 
 -- what stands where a test holds, and where it does not

@@ -1,5 +1,6 @@
 // Layers over any chip, each a chip again.
 mod scrambler;
+mod stack;
 mod window;
 
 pub use scrambler::Scrambler;

@@ -70,6 +70,20 @@ impl<C: Chip> Scrambler<C> {
         chip
     }
 
+    // The chip below, to ask it.
+    pub(crate) fn chip(&self) -> &C
+        ensures { λ r. ⌜ now r ≡ now (self .entry) .chip ⌝ }
+    {
+        &self.chip
+    }
+
+    // The key byte of an address.
+    pub(crate) fn key_byte(&self, address: u32) -> u8
+        ensures { λ r. ⌜ r ≡ key-at (now (self .entry) .key) address ⌝ }
+    {
+        self.key[(address % 16) as usize]
+    }
+
     // Where the bytes of a frame lie that is sent now: the chip goes by its MR8.
     fn course(&self, burst: Burst, start: u32) -> Course
         ensures key { λ r. ⌜ r .key ≡ now (self .entry) .key ⌝ }

@@ -49,7 +49,7 @@ impl<C: Chip> Window<C> {
     }
 
     // How far the addresses are moved.
-    fn shift(&self) -> u32
+    pub(crate) fn shift(&self) -> u32
         ensures { λ r. ⌜ r ≡ shift (now (self .entry) .hidden) (C·Chip .meaning (now (self .entry) .chip) .kind) ⌝ }
     {
         let kind = self.chip.kind();
