@@ -18,7 +18,7 @@ pub enum Refusal {
     BadSetup,
     // 2: the clock is 0 or above 133,000 kHz
     ClockOutOfRange,
-    // 3: at this clock CE# may not stay low long enough for a frame
+    // 3: at this clock CE# may be low for fewer than 35 + 2 LC clocks
     ClockTooSlow,
     // 4: no command has this letter
     UnknownCommand,
@@ -46,7 +46,7 @@ pub enum Refusal {
     BadStart,
     // 16: a frame of no bytes, or a write of an odd count or unlike its mask
     BadCount,
-    // 17: CE# would be low for longer than it may
+    // 17: CE# would be low for longer than tCEM, a read counted with twice its latency
     TooLong,
     // 18: the register cannot be read or written, or the value is reserved
     BadRegister,

@@ -1,7 +1,6 @@
 // The two makes of chip.
 ghost use mathlib.Core.Path.{_≡_};
-ghost use Prim.Native.Nat.{_/_, _%_};
-ghost use Rattle.frame.specs.Pages.{page};
+ghost use Rattle.frame.specs.Pages.{page, row-and-column};
 
 // A is the APS12808L-3OBM, S the SCB18X128800AF in its 8-bit mode.
 #[derive(Clone, Copy)]
@@ -23,7 +22,7 @@ impl Make {
 
     // The row and the column of an address.
     pub fn row_and_column(self, address: u32) -> (u32, u32)
-        ensures { λ r. ⌜ r ≡ (address / page self, address % page self) ⌝ }
+        ensures { λ r. ⌜ r ≡ row-and-column self address ⌝ }
     {
         let page = self.page();
         (address / page, address % page)

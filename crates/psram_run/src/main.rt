@@ -1,11 +1,8 @@
 // Reads a script from standard input and prints its report: for now the first line, or the refusal
 // of its opening.
-use report::Heading;
-use report::HeadingDisplay;
-use report::Refused;
-use report::RefusedDisplay;
+use report::FirstLineDisplay;
+use report::first_line;
 use script::LONGEST;
-use script::Opening;
 use std::io;
 use std::io::Read;
 
@@ -13,14 +10,6 @@ fn main(rt: LibcRuntime) -> io::Result<()> {
     // one byte more than a script may have, so that one that is too long is seen to be
     let mut input = Vec::new(rt.alloc());
     rt.stdin().take(LONGEST as u64 + 1).read_to_end(&mut input)?;
-    match Opening::parse(&input) {
-        Ok(opening) => {
-            let heading = Heading { opening };
-            println!(rt, "{heading}")
-        }
-        Err(fault) => {
-            let refused = Refused { fault };
-            println!(rt, "{refused}")
-        }
-    }
+    let line = first_line(&input);
+    println!(rt, "{line}")
 }

@@ -2,7 +2,8 @@
 ghost use mathlib.Core.Path.{_≡_};
 ghost use Rattle.std.specs.declared.option.Option.the-variants.{Some};
 ghost use Rattle.fault.specs.Refusals.{account};
-ghost use Rattle.report.specs.Lines.{letter, heading, refusal-line};
+ghost use Rattle.report.specs.Firsts.{bytes};
+ghost use Rattle.report.specs.Lines.{letter, heading, refusal-line, first-line};
 use fault::Account;
 use fault::Fault;
 use frame::Make;
@@ -55,5 +56,33 @@ pub impl fmt::Display for Refused as RefusedDisplay {
             None => write!(f, "! {tens}{units} @{place}"),
             Some(k) => write!(f, "! {tens}{units} @{place} k={k}"),
         }
+    }
+}
+
+// What the report of a script begins with.
+#[derive(Clone, Copy)]
+pub enum FirstLine {
+    Taken(Heading),
+    Refused(Refused),
+}
+
+pub impl fmt::Display for FirstLine as FirstLineDisplay {
+    ghost shown = { λ l. Some (bytes l) };
+
+    fn fmt<W: fmt::Write>(&self, f: &mut fmt::Formatter<W>) -> fmt::Result {
+        match self {
+            FirstLine::Taken(heading) => write!(f, "{heading}"),
+            FirstLine::Refused(refused) => write!(f, "{refused}"),
+        }
+    }
+}
+
+// The line that the report of a script begins with: its first line, or the refusal of its opening.
+pub fn first_line(script: &[u8]) -> FirstLine
+    ensures { λ r. ⌜ bytes r ≡ first-line (now (script .entry)) ⌝ }
+{
+    match Opening::parse(script) {
+        Ok(opening) => FirstLine::Taken(Heading { opening }),
+        Err(fault) => FirstLine::Refused(Refused { fault }),
     }
 }

@@ -1,7 +1,7 @@
 -- Values at the edges of the definitions. Assumes nothing.
 use mathlib.Core.Path.{_≡_}
 use mathlib.Core.List.{List, [], _∷_, map}
-use Prim.Native.Nat.{ℕ, _/_, _%_}
+use Prim.Native.Nat.{ℕ}
 use Rattle.std.specs.Iters.{counting}
 use Rattle.std.specs.declared.option.Option.the-variants.{Some, None}
 use Rattle.clock.specs.Made.{refused}
@@ -11,7 +11,7 @@ use Rattle.clock.specs.declared.range.Range.the-variants.{Normal, Extended}
 use Rattle.fault.specs.declared.Refusal.the-variants.{ClockTooSlow}
 use Rattle.frame.specs.Bursts.{at}
 use Rattle.frame.specs.Opening.{opening}
-use Rattle.frame.specs.Pages.{page}
+use Rattle.frame.specs.Pages.{page, row-and-column}
 use Rattle.frame.specs.declared.burst.Block.the-variants.{Bytes16}
 use Rattle.frame.specs.declared.burst.Burst.the-variants.{Hybrid}
 use Rattle.frame.specs.declared.command.Command.the-variants.{LinearRead}
@@ -42,10 +42,8 @@ pub record Edge-values : Type 0 where
   pub normal-refused : refused 10249 Normal ≡ Some ClockTooSlow
   -- a linear read at 804h
   pub opens : opening LinearRead 0x804 ≡ Some (0x20 ∷ 0x00 ∷ 0x00 ∷ 0x08 ∷ 0x04 ∷ [])
-  pub row-a : 0x804 / page make.A ≡ 2
-  pub column-a : 0x804 % page make.A ≡ 4
-  pub row-s : 0x804 / page make.S ≡ 1
-  pub column-s : 0x804 % page make.S ≡ 4
+  pub place-a : row-and-column make.A 0x804 ≡ (2, 4)
+  pub place-s : row-and-column make.S 0x804 ≡ (1, 4)
   -- hybrid 16 from 2, 18 bytes
   pub hybrid : (m : Make) → map (at m (Hybrid Bytes16) 2) (counting 0 18) ≡ 2 ∷ 3 ∷ 4 ∷ 5 ∷ 6 ∷ 7 ∷ 8 ∷ 9 ∷ 10 ∷ 11 ∷ 12 ∷ 13 ∷ 14 ∷ 15 ∷ 0 ∷ 1 ∷ 16 ∷ 17 ∷ []
   -- S in the normal range at 133,000 kHz: the longest read in one frame

@@ -8,6 +8,8 @@ use lib.ListN.{length}
 use Rattle.std.specs.declared.option.Option.{Option}
 use Rattle.std.specs.declared.option.Option.the-variants.{Some, None}
 use Rattle.clock.specs.Times.{clocks}
+use Rattle.frame.specs.Low.{low-clocks}
+use Rattle.frame.specs.declared.low.Transfer.{Transfer}
 use Rattle.clock.specs.declared.range.Latency.{Latency}
 
 -- the most bytes of one frame: CE# is low for 3 clocks, the latency, and a clock for each two bytes. A read may take 2 LC
@@ -16,6 +18,11 @@ read-limit tcem lc = 2 * (tcem - 3 - 2 * clocks lc)
 
 abbrev pub write-limit : ℕ → Latency → ℕ
 write-limit tcem wl = 2 * (tcem - 3 - clocks wl)
+
+-- a frame of n bytes keeps tCEM exactly where n is at most the limit
+pub record Keeps (frame : ℕ → Transfer) (tcem limit : ℕ) : Type 0 where
+  pub keeps : (n : ℕ) → n ≤ limit → low-clocks (frame n) ≤ tcem
+  pub most : (n : ℕ) → limit < n → tcem < low-clocks (frame n)
 
 -- a piece of n bytes from s: not empty, within the limit, and in one page of p bytes
 abbrev pub fits : ℕ → ℕ → ℕ → ℕ → Bool
@@ -31,7 +38,7 @@ rounded-to s n = s + n + (s + n) % 2
 abbrev pub rounded : ℕ → ℕ → Option (ℕ × ℕ)
 rounded s n = cond (ltb (rounded-to s n) (2 ^ 32)) (Some (rounded-from s, rounded-to s n)) None
 
--- lengths of consecutive pieces from s to e that all fit, with even ends: s is even
+-- lengths of consecutive pieces from s to e that all fit, each even: from an even s all ends are even
 abbrev pub Lawful : (ℕ → ℕ → Bool) → ℕ → ℕ → List ℕ → Type 0
 Lawful fit s e [] = s ≡ e
 Lawful fit s e (n ∷ ns) = (fit s n ≡ true) × (n % 2 ≡ 0) × Lawful fit (s + n) e ns
@@ -53,7 +60,7 @@ longest-first p limit s e = taking (next-piece p limit) (e - s) s e
 abbrev pub Closed-under-parts : (ℕ → ℕ → Bool) → Type 0
 Closed-under-parts fit = (s n t m : ℕ) → fit s n ≡ true → s ≤ t → 0 < m → t + m ≤ s + n → fit t m ≡ true
 
--- next is the longest of the even pieces from s that fit and end by e
+-- next is the longest of all pieces from s that fit and end by e, and even where s and e are
 pub record Takes-longest (fit : ℕ → ℕ → Bool) (next : ℕ → ℕ → ℕ) : Type 0 where
   pub some : (s e : ℕ) → s < e → 0 < next s e
   pub within : (s e : ℕ) → s < e → s + next s e ≤ e

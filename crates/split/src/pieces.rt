@@ -1,10 +1,12 @@
 // The pieces of a range.
 ghost use mathlib.Core.Path.{_≡_};
-ghost use Prim.Native.Nat.{_%_, _≤_};
+ghost use Prim.Native.Nat.{_*_, _%_, _≤_};
+ghost use Rattle.clock.specs.Times.{clocks};
+ghost use Rattle.frame.specs.declared.low.Transfer.the-variants.{Read, Write};
 ghost use lib.ListN.{length};
 ghost use Rattle.frame.specs.Pages.{page};
 ghost use Rattle.split.specs.Edges.{Edge-values};
-ghost use Rattle.split.specs.Splits.{read-limit, write-limit, fits, rounded, next-piece, longest-first, Lawful, Takes-longest, Longest-first-is-fewest, Fewest, read-frames, write-frames, if-rounded};
+ghost use Rattle.split.specs.Splits.{read-limit, write-limit, fits, rounded, next-piece, longest-first, Lawful, Takes-longest, Longest-first-is-fewest, Fewest, read-frames, write-frames, if-rounded, Keeps};
 use crate::splitter::Splitter;
 use clock::Clock;
 use clock::Latency;
@@ -25,6 +27,7 @@ impl Splitter {
     pub fn for_reads(make: Make, clock: &Clock, lc: Latency) -> Splitter
         ensures make { λ r. ⌜ r .make ≡ make ⌝ }
         ensures limit { λ r. ⌜ r .limit ≡ read-limit (now (clock .entry) .tcem) lc ⌝ }
+        ensures keeps { λ r. ⌜ Keeps (λ n. Read (2 * clocks lc) n) (now (clock .entry) .tcem) (r .limit) ⌝ }
     {
         let limit = 2 * (clock.tcem - 3 - 2 * lc.clocks());
         Splitter { make, limit }
@@ -34,6 +37,7 @@ impl Splitter {
     pub fn for_writes(make: Make, clock: &Clock, wl: Latency) -> Splitter
         ensures make { λ r. ⌜ r .make ≡ make ⌝ }
         ensures limit { λ r. ⌜ r .limit ≡ write-limit (now (clock .entry) .tcem) wl ⌝ }
+        ensures keeps { λ r. ⌜ Keeps (λ n. Write wl n) (now (clock .entry) .tcem) (r .limit) ⌝ }
     {
         let limit = 2 * (clock.tcem - 3 - wl.clocks());
         Splitter { make, limit }

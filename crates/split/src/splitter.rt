@@ -1,6 +1,6 @@
 // What a piece may be at most.
 ghost use mathlib.Core.Path.{_≡_};
-ghost use Prim.Native.Nat.{_%_, _<_, _≤_};
+ghost use Prim.Native.Nat.{_%_, _<_};
 use frame::Make;
 
 // Splits ranges into pieces, each of which lies in one page and has at most `limit` bytes.
@@ -10,5 +10,4 @@ pub struct Splitter {
     pub limit: u32,
     ghost some: { 0 < limit },
     ghost even: { limit % 2 ≡ 0 },
-    ghost small: { limit ≤ 1058 },
 }
