@@ -3,7 +3,7 @@
 Writes crates/bus_trace/stdout's text to standard output."""
 from little_chip import TCPH, TPU, TRP, TRST, Chip, Clock, Refused, Stack
 
-PAGES, WORD, STROBES = 4, 0x12, 10
+PAGES, WORD, STROBES = 4, 0x22, 10
 KEY = b"0123456789@[]{}~"
 CLOCK = Clock(133000, "N")
 NEXT, SETTLED, POWERED, PULSE = (CLOCK.least(ns) for ns in (TCPH, TRST, TPU, TRP))

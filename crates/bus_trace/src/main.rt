@@ -20,8 +20,8 @@ use trace::trace;
 
 const KHZ: u32 = 133_000;
 
-// The second and the fifth read of variable latency meet a refresh.
-const WORD: u32 = 0x0000_0012;
+// The second and the sixth read of variable latency meet a refresh.
+const WORD: u32 = 0x0000_0022;
 
 // So many reads are answered before the strobe goes.
 const STROBES: u16 = 10;
