@@ -1,5 +1,7 @@
 // The bench sheet of one record: for each make, temperature range and clock, the clock numbers, the
 // record's place, and the frames that read and write it.
+#![tactic(auto)]
+
 use clock::{Clock, Range};
 use frame::{Command, Make, Transfer};
 use split::{Splitter, frames_of_read, frames_of_write, rounded};

@@ -1,5 +1,7 @@
 // One sequence of frames over four chips: a model of each make, bare and below a window and a
 // scrambler. The opening bytes are those of the frames as they are called.
+#![tactic(auto)]
+
 mod steps;
 mod trace;
 

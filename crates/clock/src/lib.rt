@@ -1,4 +1,6 @@
 // Clock numbers: how many clocks the times of the data sheet are.
+#![tactic(auto)]
+
 mod make;
 mod numbers;
 mod range;

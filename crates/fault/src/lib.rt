@@ -1,4 +1,6 @@
 // What is refused and why: one closed list, in checking order, and the place of a refusal.
+#![tactic(auto)]
+
 ghost use Rattle.std.specs.Prelude.{◌≡◌};
 ghost use Rattle.fault.specs.Refusals.{account, refuses, fault_at};
 

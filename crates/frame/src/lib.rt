@@ -1,4 +1,6 @@
 // Frames on the octal bus: their opening bytes, where their bytes lie, and how long CE# is low.
+#![tactic(auto)]
+
 mod burst;
 mod command;
 mod low;

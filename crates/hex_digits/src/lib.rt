@@ -1,4 +1,6 @@
 // Bytes and addresses in upper-case hexadecimal digits.
+#![tactic(auto)]
+
 ghost use Rattle.std.specs.Prelude.{◌≡◌, ◌+◌, ◌*◌, ◌/◌, ◌%◌, ◌<◌, Some};
 ghost use Rattle.hex_digits.specs.Hex.{hex_digit, hex_byte, hex_bytes, six_digits, digit_value, Sixteen};
 

@@ -1,4 +1,6 @@
 // Layers over any chip, each a chip again.
+#![tactic(auto)]
+
 mod scrambler;
 mod stack;
 mod window;

@@ -1,4 +1,6 @@
 // The commands of a script, in order, with their places.
+#![tactic(auto)]
+
 ghost use Rattle.std.specs.Prelude.{◌≡◌, ◌+◌, ◌≤◌, true, length, is_ok, vec_len, vec_capacity, OnErr};
 ghost use Rattle.script.specs.Openings.{refused};
 ghost use Rattle.listing.specs.Scripts.{Listed, WholeListed, ScriptComesBack};

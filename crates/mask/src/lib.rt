@@ -1,4 +1,6 @@
 // Masks: one bit for each byte of a write, lowest bit first; a set bit means that it is not written.
+#![tactic(auto)]
+
 ghost use Rattle.std.specs.Prelude.{◌≡◌, ℕ, ◌*◌, ◌≤◌, true, length, Decides};
 ghost use Rattle.frame.specs.Low.{held};
 ghost use Rattle.mask.specs.Masks.{size, masked, masked_among, left_over, Past};

@@ -1,4 +1,6 @@
 // Models of the two makes of chip, over a store.
+#![tactic(auto)]
+
 mod asks;
 mod device;
 mod frames;

@@ -1,5 +1,7 @@
 // Compares the functions of the protocol with a table. A row is a question and its answer, parted
 // by " = ". Prints each row that differs, with what was found, and last the counts.
+#![tactic(auto)]
+
 mod clocks;
 mod frames;
 mod items;

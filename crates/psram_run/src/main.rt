@@ -1,5 +1,7 @@
 // Reads a script from standard input and prints its report: for now the first line, or the refusal
 // of its opening.
+#![tactic(auto)]
+
 use report::first_line;
 use script::LONGEST;
 use std::io;

@@ -1,5 +1,7 @@
 // What a chip refuses, by 13 to 20, one step to each side of every edge: on the models, and
 // through a scrambler over a window.
+#![tactic(auto)]
+
 mod attempt;
 mod cases;
 mod tables;

@@ -1,4 +1,6 @@
 // The mode registers: what their values mean, which values are reserved, and what each make holds.
+#![tactic(auto)]
+
 mod fields;
 mod table;
 mod values;

@@ -1,4 +1,6 @@
 // The lines of the report.
+#![tactic(auto)]
+
 mod first;
 mod line;
 mod refused;

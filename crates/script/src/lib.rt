@@ -1,4 +1,6 @@
 // The bytes of a script.
+#![tactic(auto)]
+
 mod command;
 mod opening;
 

@@ -1,5 +1,7 @@
 // Reads a script from standard input and prints its commands in words, each behind its place, and
 // the refusal that ends it.
+#![tactic(auto)]
+
 use listing::read;
 use script::LONGEST;
 use std::alloc::Global;

@@ -1,4 +1,6 @@
 // Splitting a range of addresses into pieces, one for each frame.
+#![tactic(auto)]
+
 mod pieces;
 mod splitter;
 

@@ -1,4 +1,6 @@
 // The commands of a script in words.
+#![tactic(auto)]
+
 ghost use Rattle.std.specs.Prelude.{Some};
 ghost use Rattle.script.specs.Commands.{asked};
 ghost use Rattle.words.specs.Listings.{lines, listing};

@@ -5,7 +5,7 @@ use Rattle.mask.proofs.Bits.{count_more, all_among}
 use Rattle.mask.proofs.masked_bytes.Goals as goal
 
 pub loop-byte-preserved : goal.loop-byte-preserved
-loop-byte-preserved c = count_more _ _ _ _ _ (c.type-inv.mask _).fits c.loop-byte.invariant c.from.ensures c.saturating-add-count.ensures
+loop-byte-preserved c = count_more _ _ _ _ _ (c.type_inv.mask _).fits c.loop-byte.invariant c.from.ensures c.saturating_add-count.ensures
 
 pub returns : goal.returns
 returns c =

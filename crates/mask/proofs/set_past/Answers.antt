@@ -3,9 +3,9 @@ use Rattle.std.proofs.lemmas.Bool.{false≢true}
 use Rattle.mask.proofs.Bits.{some_past, none_left}
 use Rattle.mask.proofs.set_past.Goals as goal
 
-pub returns-then-left-over-ne0 : goal.returns-then-left-over-ne0
-returns-then-left-over-ne0 c = (
-  λ _. some_past _ c.loop-k.k _ (c.type-inv.mask _).fits (λ none. c.if-left-over-ne0.true (c.left-over.ensures ∙ none)),
+pub returns-then-left_over-ne0 : goal.returns-then-left_over-ne0
+returns-then-left_over-ne0 c = (
+  λ _. some_past _ c.loop-k.k _ (c.type_inv.mask _).fits (λ none. c.if-left_over-ne0.true (c.left_over.ensures ∙ none)),
   λ _. refl,
 )
 

@@ -9,4 +9,4 @@ unfolding hex_byte
 returns-clause-writes g c plain ok =
     subst (λ bs. HasWritten g.W.Write.write_str_gives c.args.f.now bs c.write.new.self)
     (two_digits c.args.self.now.0 _ _ (omega arith) c.digits-high.ensures.value.0 c.digits-high.ensures.value.1)
-    (c.write.ensures.shows plain ok)
+    (c.write.ensures.writes plain ok)

@@ -10,7 +10,7 @@ loop-byte-init g c plain = record { wrote = writes_in_calls_nil _ _; plain = pla
 
 pub loop-byte-preserved : goal.loop-byte-preserved
 loop-byte-preserved g c plain =
-    put_byte _ _ _ _ _ _ c.loop-byte-test.true (c.loop-byte.invariant plain) (λ still. c.in-ok-write.ensures.shows still refl)
+    put_byte _ _ _ _ _ _ c.loop-byte-test.true (c.loop-byte.invariant plain) (λ still. c.in_ok-write.ensures.writes still refl)
 
 pub returns-clause-writes : goal.returns-clause-writes
 returns-clause-writes g c plain ok = has_written_of_eq _ _ _ _ _ (ap hex_bytes (take_all _ _ c.loop-byte-test.false)) (c.loop-byte.invariant plain)

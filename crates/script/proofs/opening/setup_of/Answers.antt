@@ -8,4 +8,4 @@ pub returns : goal.returns
 returns c =
     let bs = c.args.input.now in
     c.setup.ensures
-    ∙ in_two_steps bs _ _ _ _ _ (omega (arith, ltb-false)) c.if-input-gt-LONGEST.false c.from-be-bytes.ensures c.from-be-bytes-2.ensures c.from-be-bytes-3.ensures c.from-be-bytes-4.ensures (take_rest bs 15)
+    ∙ in_two_steps bs _ _ _ _ _ (omega (arith, ltb-false)) c.if-input-gt-LONGEST.false c.from_be_bytes.ensures c.from_be_bytes-2.ensures c.from_be_bytes-3.ensures c.from_be_bytes-4.ensures (take_rest bs 15)

@@ -11,7 +11,7 @@ loop-placed-init g c plain = record { wrote = writes_in_calls_nil _ _; plain = p
 
 pub loop-placed-preserved : goal.loop-placed-preserved
 loop-placed-preserved g c plain =
-    put_line _ _ _ _ _ _ _ c.loop-placed-test.true (c.loop-placed.invariant plain) (λ still. c.in-ok-writeln.ensures.shows still refl)
+    put_line _ _ _ _ _ _ _ c.loop-placed-test.true (c.loop-placed.invariant plain) (λ still. c.in_ok-writeln.ensures.writes still refl)
 
 pub returns-clause-writes : goal.returns-clause-writes
 returns-clause-writes g c plain ok = has_written_of_eq _ _ _ _ _ (ap (λ l. lines (seen l)) (take_all _ _ c.loop-placed-test.false)) (c.loop-placed.invariant plain)

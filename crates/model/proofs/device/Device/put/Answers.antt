@@ -7,4 +7,4 @@ use Rattle.model.proofs.device.Device.put.Goals as goal
 pub loop-i-preserved : goal.loop-i-preserved
 loop-i-preserved c =
     let d = c.args.self.now in
-    put_more (inside d) (inside c.loop-i.self) _ (at d.kind.make c.args.wire c.args.start) c.args.data.now c.args.mask.now c.loop-i.i _ _ _ c.loop-i.invariant c.address-address.ensures.value refl c.masked.ensures c.put-byte.ensures
+    put_more (inside d) (inside c.loop-i.self) _ (at d.kind.make c.args.wire c.args.start) c.args.data.now c.args.mask.now c.loop-i.i _ _ _ c.loop-i.invariant c.address-address.ensures.value refl c.masked.ensures c.put_byte.ensures

@@ -12,31 +12,31 @@ pub returns-in-Some : goal.returns-in-Some
 returns-in-Some c =
     let d = c.args.self.now in
     let f = register_read c.args.number in
-    let long : c.too-long.result ≡ too_long d.kind d.state f = c.too-long.ensures ∙ ap (λ l. ltb d.kind.clock.tcem (low_clocks (transfer.RegisterRead l))) c.lc.ensures in
+    let long : c.too_long.result ≡ too_long d.kind d.state f = c.too_long.ensures ∙ ap (λ l. ltb d.kind.clock.tcem (low_clocks (transfer.RegisterRead l))) c.lc.ensures in
     moves_refused (inside d) c.args.gap f _ _ _
-    (refused_by d.kind d.state c.args.gap f _ false false _ _ _ c.requires refl c.too-soon.ensures refl refl long (ap not c.readable.ensures) c.in-Some.ensures)
+    (refused_by d.kind d.state c.args.gap f _ false false _ _ _ c.requires refl c.too_soon.ensures refl refl long (ap not c.readable.ensures) c.in-Some.ensures)
     c.at.ensures refl
 
 pub returns-then-not-strobe : goal.returns-then-not-strobe
 returns-then-not-strobe c =
     let d = c.args.self.now in
     let f = register_read c.args.number in
-    let long : c.too-long.result ≡ too_long d.kind d.state f = c.too-long.ensures ∙ ap (λ l. ltb d.kind.clock.tcem (low_clocks (transfer.RegisterRead l))) c.lc.ensures in
-    let gone : strobe_stays (inside d) ≡ false = sym c.strobe-stays-strobe.ensures ∙ c.if-not-strobe.true in
-    let low = c.low-clocks.ensures ∙ ap (λ l. low_clocks (transfer.RegisterRead l)) c.lc.ensures in
-    let free : refused d.kind d.state c.args.gap f ≡ None = refused_by d.kind d.state c.args.gap f _ false false _ _ _ c.requires refl c.too-soon.ensures refl refl long (ap not c.readable.ensures) c.in-default.ensures in
+    let long : c.too_long.result ≡ too_long d.kind d.state f = c.too_long.ensures ∙ ap (λ l. ltb d.kind.clock.tcem (low_clocks (transfer.RegisterRead l))) c.lc.ensures in
+    let gone : strobe_stays (inside d) ≡ false = sym c.strobe_stays-strobe.ensures ∙ c.if-not-strobe.true in
+    let low = c.low_clocks.ensures ∙ ap (λ l. low_clocks (transfer.RegisterRead l)) c.lc.ensures in
+    let free : refused d.kind d.state c.args.gap f ≡ None = refused_by d.kind d.state c.args.gap f _ false false _ _ _ c.requires refl c.too_soon.ensures refl refl long (ap not c.readable.ensures) c.in_default.ensures in
     moves_taken (inside d) c.args.gap f _ _ free
-    (parts_taken (inside d) f _ (counted d.state c.low-clocks.result c.strobe-stays-strobe.result) _ _ _ c.count.ensures (same_counted d.state _ _ _ _ low c.strobe-stays-strobe.ensures) refl refl (not_counted (inside d) gone))
+    (parts_taken (inside d) f _ (counted d.state c.low_clocks.result c.strobe_stays-strobe.result) _ _ _ c.count.ensures (same_counted d.state _ _ _ _ low c.strobe_stays-strobe.ensures) refl refl (not_counted (inside d) gone))
     (ap Err c.at-then-not-strobe.ensures ∙ sym (cond-false _ _ _ gone))
 
 pub returns : goal.returns
 returns c =
     let d = c.args.self.now in
     let f = register_read c.args.number in
-    let long : c.too-long.result ≡ too_long d.kind d.state f = c.too-long.ensures ∙ ap (λ l. ltb d.kind.clock.tcem (low_clocks (transfer.RegisterRead l))) c.lc.ensures in
-    let there : strobe_stays (inside d) ≡ true = sym c.strobe-stays-strobe.ensures ∙ c.if-not-strobe.false in
-    let low = c.low-clocks.ensures ∙ ap (λ l. low_clocks (transfer.RegisterRead l)) c.lc.ensures in
-    let free : refused d.kind d.state c.args.gap f ≡ None = refused_by d.kind d.state c.args.gap f _ false false _ _ _ c.requires refl c.too-soon.ensures refl refl long (ap not c.readable.ensures) c.in-default.ensures in
+    let long : c.too_long.result ≡ too_long d.kind d.state f = c.too_long.ensures ∙ ap (λ l. ltb d.kind.clock.tcem (low_clocks (transfer.RegisterRead l))) c.lc.ensures in
+    let there : strobe_stays (inside d) ≡ true = sym c.strobe_stays-strobe.ensures ∙ c.if-not-strobe.false in
+    let low = c.low_clocks.ensures ∙ ap (λ l. low_clocks (transfer.RegisterRead l)) c.lc.ensures in
+    let free : refused d.kind d.state c.args.gap f ≡ None = refused_by d.kind d.state c.args.gap f _ false false _ _ _ c.requires refl c.too_soon.ensures refl refl long (ap not c.readable.ensures) c.in_default.ensures in
     moves_taken (inside d) c.args.gap f _ _ free
-    (answered_taken (inside d) f _ _ (counted d.state c.low-clocks.result c.strobe-stays-strobe.result) false c.answer.ensures c.count.ensures (same_counted d.state _ _ _ _ low c.strobe-stays-strobe.ensures) refl refl (one_counted (inside d) there))
+    (answered_taken (inside d) f _ _ (counted d.state c.low_clocks.result c.strobe_stays-strobe.result) false c.answer.ensures c.count.ensures (same_counted d.state _ _ _ _ low c.strobe_stays-strobe.ensures) refl refl (one_counted (inside d) there))
     (ap (λ v. Ok (Register v)) c.register-value.ensures ∙ sym (cond-true _ _ _ there))

@@ -42,9 +42,9 @@ returns-in-Awake-Write c =
 pub returns-in-Awake-RegisterRead : goal.returns-in-Awake-RegisterRead
 returns-in-Awake-RegisterRead c =
     let n = length c.args.buffer.now in
-    from_moves (inside c.args.self.now) _ c.args.gap _ _ c.args.buffer.now _ (ap (λ f. sent f n) c.in-Awake-RegisterRead.is-1) refl c.read-register.ensures
+    from_moves (inside c.args.self.now) _ c.args.gap _ _ c.args.buffer.now _ (ap (λ f. sent f n) c.in-Awake-RegisterRead.is-1) refl c.read_register.ensures
 
 pub returns-in-Awake-RegisterWrite : goal.returns-in-Awake-RegisterWrite
 returns-in-Awake-RegisterWrite c =
     let n = length c.args.buffer.now in
-    from_moves (inside c.args.self.now) _ c.args.gap _ _ c.args.buffer.now _ (ap (λ f. sent f n) c.in-Awake-RegisterWrite.is-1) refl c.write-register.ensures
+    from_moves (inside c.args.self.now) _ c.args.gap _ _ c.args.buffer.now _ (ap (λ f. sent f n) c.in-Awake-RegisterWrite.is-1) refl c.write_register.ensures

@@ -11,13 +11,13 @@ pub returns-in-Some : goal.returns-in-Some
 returns-in-Some c =
     let d = c.args.self.now in
     let f = write c.args.burst c.args.start c.args.data.now c.args.mask.now in
-    let long : c.too-long.result ≡ too_long d.kind d.state f = c.too-long.ensures ∙ ap (λ l. ltb d.kind.clock.tcem (low_clocks (transfer.Write l (length c.args.data.now)))) c.wl.ensures in
+    let long : c.too_long.result ≡ too_long d.kind d.state f = c.too_long.ensures ∙ ap (λ l. ltb d.kind.clock.tcem (low_clocks (transfer.Write l (length c.args.data.now)))) c.wl.ensures in
     moves_refused (inside d) c.args.gap f _ _ _
-    (refused_by d.kind d.state c.args.gap f _ _ _ _ false _ c.requires refl c.too-soon.ensures c.bad-start.ensures c.bad-count-count.ensures long refl c.in-Some.ensures)
+    (refused_by d.kind d.state c.args.gap f _ _ _ _ false _ c.requires refl c.too_soon.ensures c.bad_start.ensures c.bad_count-count.ensures long refl c.in-Some.ensures)
     c.at.ensures refl
 
 pub put-requires : goal.put-requires
-put-requires c = good_start _ _ _ _ _ _ _ c.in-default.ensures c.bad-start.ensures
+put-requires c = good_start _ _ _ _ _ _ _ c.in_default.ensures c.bad_start.ensures
 
 pub returns : goal.returns
 returns c =
@@ -25,12 +25,12 @@ returns c =
     let bytes = c.args.data.now in
     let mask = c.args.mask.now in
     let f = write c.args.burst c.args.start bytes mask in
-    let long : c.too-long.result ≡ too_long d.kind d.state f = c.too-long.ensures ∙ ap (λ l. ltb d.kind.clock.tcem (low_clocks (transfer.Write l (length bytes)))) c.wl.ensures in
-    let low = c.low-clocks.ensures ∙ ap (λ l. low_clocks (transfer.Write l (length bytes))) c.wl.ensures in
-    let free : refused d.kind d.state c.args.gap f ≡ None = refused_by d.kind d.state c.args.gap f _ _ _ _ false _ c.requires refl c.too-soon.ensures c.bad-start.ensures c.bad-count-count.ensures long refl c.in-default.ensures in
+    let long : c.too_long.result ≡ too_long d.kind d.state f = c.too_long.ensures ∙ ap (λ l. ltb d.kind.clock.tcem (low_clocks (transfer.Write l (length bytes)))) c.wl.ensures in
+    let low = c.low_clocks.ensures ∙ ap (λ l. low_clocks (transfer.Write l (length bytes))) c.wl.ensures in
+    let free : refused d.kind d.state c.args.gap f ≡ None = refused_by d.kind d.state c.args.gap f _ _ _ _ false _ c.requires refl c.too_soon.ensures c.bad_start.ensures c.bad_count-count.ensures long refl c.in_default.ensures in
     moves_taken (inside d) c.args.gap f _ _ free
-    (parts_taken (inside d) f _ (counted d.state c.low-clocks.result c.strobe-stays-strobe.result) _ _ _
-    (c.count.ensures ∙ ap (λ x. with_state x (counted x.state c.low-clocks.result c.strobe-stays-strobe.result)) c.put.ensures)
-    (same_counted d.state _ _ _ _ low c.strobe-stays-strobe.ensures)
+    (parts_taken (inside d) f _ (counted d.state c.low_clocks.result c.strobe_stays-strobe.result) _ _ _
+    (c.count.ensures ∙ ap (λ x. with_state x (counted x.state c.low_clocks.result c.strobe_stays-strobe.result)) c.put.ensures)
+    (same_counted d.state _ _ _ _ low c.strobe_stays-strobe.ensures)
     (ap (λ w. put (at d.kind.make w c.args.start) bytes mask (length bytes) (vec_items d.store)) c.wire-wire.ensures) refl refl)
     refl

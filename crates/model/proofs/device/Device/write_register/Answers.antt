@@ -9,7 +9,7 @@ returns-in-Some c =
     let d = c.args.self.now in
     let f = register_write c.args.number c.args.value in
     moves_refused (inside d) c.args.gap f _ _ _
-    (refused_by d.kind d.state c.args.gap f _ _ _ _ _ _ c.requires refl c.too-soon.ensures refl refl c.too-long.ensures (ap not c.accepts.ensures) c.in-Some.ensures)
+    (refused_by d.kind d.state c.args.gap f _ _ _ _ _ _ c.requires refl c.too_soon.ensures refl refl c.too_long.ensures (ap not c.accepts.ensures) c.in-Some.ensures)
     c.at.ensures refl
 
 pub returns : goal.returns
@@ -17,6 +17,6 @@ returns c =
     let d = c.args.self.now in
     let f = register_write c.args.number c.args.value in
     moves_taken (inside d) c.args.gap f _ _
-    (refused_by d.kind d.state c.args.gap f _ _ _ _ _ _ c.requires refl c.too-soon.ensures refl refl c.too-long.ensures (ap not c.accepts.ensures) c.in-default.ensures)
-    (then_counted (inside d) _ _ (with_register d.state c.args.number c.args.value) _ _ _ _ c.count.ensures c.set-register.ensures c.low-clocks.ensures c.strobe-stays-strobe.ensures)
+    (refused_by d.kind d.state c.args.gap f _ _ _ _ _ _ c.requires refl c.too_soon.ensures refl refl c.too_long.ensures (ap not c.accepts.ensures) c.in_default.ensures)
+    (then_counted (inside d) _ _ (with_register d.state c.args.number c.args.value) _ _ _ _ c.count.ensures c.set_register.ensures c.low_clocks.ensures c.strobe_stays-strobe.ensures)
     refl

@@ -5,10 +5,10 @@ use Rattle.model.proofs.Arms.{kind_stays}
 use Rattle.model.proofs.IsChip.{sends, counts_sent, last_write_wins}
 use Rattle.model.proofs.model_a.ModelAChip.send.Goals as goal
 
-pub invariant-of-self : goal.invariant-of-self
-invariant-of-self c =
+pub invariant_of-self : goal.invariant_of-self
+invariant_of-self c =
     let m = c.args.self.now in
-    (ap (λ k. page k.make) (kind_stays (inside m.device) _ _ _ _ _ _ c.send.ensures) ∙ m.own, tt)
+    record { own = ap (λ k. page k.make) (kind_stays (inside m.device) _ _ _ _ _ _ c.send.ensures) ∙ m.own }
 
 pub returns : goal.returns
 returns c =

@@ -8,4 +8,4 @@ returns-clause-writes g c plain ok =
     let o = c.args.self.now.opening in
     subst (λ bs. HasWritten g.W.Write.write_str_gives c.args.f.now bs c.write.new.self)
     (same_heading o.make o.pages o.clock.khz _ _ _ c.letter-letter.ensures c.period-period.ensures.value)
-    (c.write.ensures.shows plain ok)
+    (c.write.ensures.writes plain ok)

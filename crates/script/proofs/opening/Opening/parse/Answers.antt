@@ -3,10 +3,10 @@ use Rattle.script.proofs.Comes.{comes_back}
 use Rattle.script.proofs.Openings.{clock_refused, setup_refused, same_told}
 use Rattle.script.proofs.opening.Opening.parse.Goals as goal
 
-pub returns-in-default : goal.returns-in-default
-returns-in-default c = record {
+pub returns-in_default : goal.returns-in_default
+returns-in_default c = record {
   parsed = (
-    setup_refused c.args.input.now c.in-default.ensures ∙ ap (λ f. Some f.refusal) (sym c.at.ensures),
+    setup_refused c.args.input.now c.in_default.ensures ∙ ap (λ f. Some f.refusal) (sym c.at.ensures),
     ap (λ f. f.place) c.at.ensures,
   );
   comes_back = comes_back c.args.input.now;
