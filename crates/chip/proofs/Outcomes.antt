@@ -5,7 +5,7 @@ use Rattle.fault.specs.Refusals.{account, fault_at}
 use Rattle.fault.specs.declared.Fault.{Fault}
 use Rattle.fault.specs.declared.Refusal.{Refusal}
 use Rattle.chip.specs.Exchanges.{low_by_answer, Exchanged}
-use Rattle.chip.specs.Frames.{Sent, place, refused, Judged, Sends}
+use Rattle.chip.specs.Frames.{Sent, place, Judged, Sends}
 use Rattle.chip.specs.Meaning.{Meaning}
 use Rattle.chip.specs.Runs.{Event, sending, Does, still, onward, unless_refused, frames_in, clocks_in, CountsFit, Risen}
 use Rattle.chip.specs.declared.parts.Reply.{Reply}

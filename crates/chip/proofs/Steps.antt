@@ -7,7 +7,7 @@ use Rattle.fault.specs.declared.Refusal.TheVariants.{NoStrobe}
 use Rattle.chip.specs.Frames.{Sent, read, write, register_read, register_write, global_reset, place, after, Free, SamePart, Taken, Judged}
 use Rattle.chip.specs.Meaning.{Meaning}
 use Rattle.chip.specs.Resets.{ResetJudged}
-use Rattle.chip.specs.Runs.{Event, sending, resetting, Does, refusal, Restart, Step, Runs, still, onward, Each, RefusedLeaves, RefusedLeavesEverything, err, StrobeReturnsByResetAlone, PartNeverChanges}
+use Rattle.chip.specs.Runs.{Event, sending, resetting, Does, Restart, Step, Runs, still, onward, Each, RefusedLeaves, RefusedLeavesEverything, err, StrobeReturnsByResetAlone, PartNeverChanges}
 use Rattle.chip.specs.declared.parts.Kind.{Kind}
 use Rattle.chip.specs.declared.parts.Reply.{Reply}
 use Rattle.chip.specs.declared.parts.State.{State}

@@ -1,8 +1,8 @@
 -- The addresses of a burst: they stay in the page, and a block is gone through once. Assumes nothing.
-use Rattle.std.proofs.Common.{◌≡◌, ℕ, ◌+◌, ◌-◌, ◌*◌, ◌/◌, ◌%◌, ◌<◌, ◌≤◌, cond, ltb, ◌∙◌, arith}
-use Rattle.std.proofs.lemmas.Bool.{cond_both, le-ltb, cond-false}
+use Rattle.std.proofs.Common.{◌≡◌, ℕ, ◌+◌, ◌-◌, ◌/◌, ◌%◌, ◌<◌, ◌≤◌, ◌∙◌, arith}
+use Rattle.std.proofs.lemmas.Bool.{le-ltb, cond-false}
 use Rattle.std.proofs.lemmas.Bool.Decides.{nat_tests}
-use Rattle.frame.specs.Bursts.{bytes, base, at, wrapped, hybrid}
+use Rattle.frame.specs.Bursts.{bytes, base, at, wrapped}
 use Rattle.frame.specs.Orders.{Permutes, Ordered}
 use Rattle.frame.specs.Pages.{page}
 use Rattle.frame.specs.declared.burst.Block.{Block}

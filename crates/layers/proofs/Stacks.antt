@@ -7,7 +7,7 @@ use Rattle.fault.specs.declared.Refusal.{Refusal}
 use Rattle.frame.specs.declared.burst.Burst.{Burst}
 use Rattle.mask.specs.Masks.{masked}
 use Rattle.chip.specs.Frames.{Sent, read, write, refused, Free, address, written, holds, Taken, Judged, Sends}
-use Rattle.chip.specs.Meaning.{Meaning, Lawful, size, coverage}
+use Rattle.chip.specs.Meaning.{Meaning, size, coverage}
 use Rattle.chip.specs.declared.parts.Reply.{Reply}
 use Rattle.chip.specs.declared.parts.Reply.TheVariants.{Done}
 use Rattle.layers.specs.Scramblers.{key_at}

@@ -1,5 +1,5 @@
 -- What follows from a frame not being refused. Assumes nothing.
-use Rattle.std.specs.Prelude.{◌≡◌, ℕ, Bool, true, false, cond, List, [], ◌∷◌, Some, None, Option, refl}
+use Rattle.std.specs.Prelude.{◌≡◌, ℕ, Bool, true, false, List, ◌∷◌, None, refl}
 use Rattle.std.proofs.Common.{arith}
 use Rattle.fault.specs.declared.Refusal.{Refusal}
 use Rattle.chip.specs.Frames.{first, Sent, bad_start, refused}

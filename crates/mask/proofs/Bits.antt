@@ -1,5 +1,5 @@
 -- The bits of a mask: their number, and whether one is set past a length. Assumes nothing.
-use Rattle.std.proofs.Common.{◌≡◌, ℕ, zero, suc, ◌+◌, ◌-◌, ◌*◌, ◌/◌, ◌%◌, ◌^◌, ◌<◌, ◌≤◌, min, Bool, true, false, cond, eqb, ltb, List, length, get_or, sym, refl, ap, ◌∙◌, inl, inr, ⊎_elim, add-zero, add-suc, pos_of_ne-zero, one-add, arith, pow_mono, pow-add}
+use Rattle.std.proofs.Common.{◌≡◌, ℕ, zero, suc, ◌+◌, ◌-◌, ◌*◌, ◌/◌, ◌%◌, ◌^◌, ◌<◌, ◌≤◌, min, Bool, true, false, cond, eqb, List, length, get_or, sym, refl, ap, ◌∙◌, inl, inr, ⊎_elim, add-zero, add-suc, pos_of_ne-zero, one-add, arith, pow_mono, pow-add}
 use native.Mathlib.Nat.{zero-div, div-eq_of_lt}
 use lib.Arith.{bin_ind}
 use lib.Count.{ones, ones_step, ones-le}

@@ -11,7 +11,7 @@ use Rattle.chip.specs.declared.parts.Kind.{Kind}
 use Rattle.chip.specs.declared.parts.Phase.TheVariants.{Unwoken, Awake}
 use Rattle.chip.specs.declared.parts.Reply.{Reply}
 use Rattle.chip.specs.declared.parts.State.{State}
-use Rattle.model.specs.Models.{Model, with_state, with_counts, strobe_stays, variable, choice, store_after, turn_after, one_more, answered_after, taken, buffer_after, judged, step, Steps, Moves, restarted, reset_judged, Restarts}
+use Rattle.model.specs.Models.{Model, with_state, with_counts, strobe_stays, variable, choice, store_after, turn_after, one_more, answered_after, taken, buffer_after, judged, Steps, Moves, restarted, reset_judged, Restarts}
 
 -- a frame that the phase takes is refused by the other five tests
 pub refused_taking : (k : Kind) (s : State) (gap : ℕ) (f : Sent) (soon start count long register : Bool) (o : Option Refusal) → takes s.phase (wakes f) ≡ true → soon ≡ ltb gap (least_gap k s) → start ≡ bad_start k f → count ≡ bad_count f → long ≡ too_long k s f → register ≡ bad_register f → o ≡ first ((soon, TooSoon) ∷ (start, BadStart) ∷ (count, BadCount) ∷ (long, TooLong) ∷ (register, BadRegister) ∷ []) → refused k s gap f ≡ o

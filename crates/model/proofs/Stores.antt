@@ -1,10 +1,8 @@
 -- The store after a write, byte by byte. Assumes nothing.
-use Rattle.std.proofs.Common.{◌≡◌, ℕ, suc, ◌+◌, ◌*◌, ◌/◌, ◌<◌, Bool, true, false, cond, List, length, get_or, set, sym, refl, ap, ◌∙◌, add-one, arith}
+use Rattle.std.proofs.Common.{◌≡◌, ℕ, ◌+◌, ◌*◌, ◌/◌, ◌<◌, Bool, cond, List, length, get_or, set, sym, ap, ◌∙◌, add-one, arith}
 use Rattle.std.proofs.lemmas.List.Edits.{fill_by_more}
 use Rattle.std.proofs.lemmas.List.{get_or_read_under}
-use Rattle.frame.specs.Bursts.{at}
 use Rattle.frame.specs.Pages.{page}
-use Rattle.frame.specs.declared.burst.Burst.{Burst}
 use Rattle.frame.specs.declared.make.Make.{Make}
 use Rattle.frame.specs.declared.make.Make.TheVariants as make
 use Rattle.mask.specs.Masks.{masked}

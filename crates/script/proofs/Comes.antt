@@ -1,14 +1,13 @@
 -- An opening that is written comes back. Assumes nothing.
-use Rattle.std.proofs.Common.{◌≡◌, ℕ, ◌+◌, ◌*◌, ◌/◌, ◌%◌, ◌≤◌, Bool, true, false, cond, ◌&&◌, ◌||◌, eqb, leb, List, [], ◌∷◌, ◌++◌, length, get_or, take, drop, Some, sym, refl, ap, ◌∙◌, subst, arith, length-append}
+use Rattle.std.proofs.Common.{◌≡◌, ℕ, ◌+◌, ◌*◌, ◌/◌, ◌%◌, ◌≤◌, true, List, [], ◌∷◌, ◌++◌, length, drop, refl, ap, ◌∙◌, subst, arith, length-append}
 use Rattle.std.proofs.lemmas.List.{take_at, drop_at}
 use Rattle.std.proofs.lemmas.Bool.{le-leb, and_from, cond-true}
 use Rattle.clock.specs.Made as clock
 use Rattle.clock.specs.declared.range.Range.{Range}
 use Rattle.clock.specs.declared.range.Range.TheVariants.{Normal, Extended}
-use Rattle.fault.specs.declared.Refusal.TheVariants.{BadSetup}
 use Rattle.frame.specs.declared.make.Make.{Make}
 use Rattle.frame.specs.declared.make.Make.TheVariants as make
-use Rattle.script.specs.Openings.{two, four, is_make, make_of, is_pages, is_range, range_of, is_stack, stack_of, opening_length, well_formed, refused, Fields, fields, make_byte, range_byte, stack_bytes, written_opening, StackFits, OpeningFits, OpeningComesBack}
+use Rattle.script.specs.Openings.{is_make, make_of, is_range, range_of, is_stack, stack_of, opening_length, well_formed, Fields, fields, make_byte, range_byte, stack_bytes, written_opening, StackFits, OpeningFits, OpeningComesBack}
 use Rattle.script.specs.declared.opening.Stack.{Stack}
 use Rattle.script.specs.declared.opening.Stack.TheVariants.{Plain, Keyed}
 

@@ -1,9 +1,9 @@
 -- The parts of a command that are read one behind the other are those of its bytes. Assumes nothing.
-use Rattle.std.proofs.Common.{◌≡◌, ℕ, ◌+◌, ◌-◌, ◌*◌, ◌≤◌, List, length, get_or, take, drop, sym, refl, ap, ◌∙◌, arith, length-drop}
+use Rattle.std.proofs.Common.{◌≡◌, ℕ, ◌+◌, ◌-◌, ◌≤◌, List, length, get_or, take, drop, sym, ap, ◌∙◌, arith, length-drop}
 use Rattle.std.proofs.lemmas.List.{take_rest, drop-drop}
 use Rattle.mask.specs.Masks as mask
 use Rattle.script.specs.Openings.{two}
-use Rattle.script.specs.Commands.{Ask, read, write, fill, three, write_width, write_ask}
+use Rattle.script.specs.Commands.{read, write, fill, three, write_width, write_ask}
 use Rattle.script.specs.Parts.{Takes}
 
 pub read_takes : (bs : List ℕ) (a n : ℕ) → 6 ≤ length bs → a ≡ three bs 1 → n ≡ two bs 4 → Takes bs 6 (read (three bs 1) (two bs 4)) (read a n) (take (length bs - 6) (drop 6 bs))

@@ -1,5 +1,5 @@
 -- Values at the edges of the definitions. Assumes nothing.
-use Rattle.std.specs.Prelude.{◌≡◌, ℕ, List, [], ◌∷◌, map, Some, None}
+use Rattle.std.specs.Prelude.{◌≡◌, ℕ, [], ◌∷◌, map, Some, None}
 use Rattle.std.specs.List.{range_with_len}
 use Rattle.clock.specs.Made.{refused}
 use Rattle.clock.specs.Times.{TCPH, TRC, TRST, TPU, TRP, tcem_ns, latency, whole, started}

@@ -1,4 +1,4 @@
-use Rattle.std.proofs.Common.{◌≡◌, sym, arith, rules}
+use Rattle.std.proofs.Common.{sym, arith, rules}
 use Rattle.frame.proofs.Reopens.{reopened}
 use Rattle.frame.proofs.command.Command.opened.Goals as goal
 

@@ -1,4 +1,4 @@
-use Rattle.std.proofs.Common.{sym, ap, ◌∙◌}
+use Rattle.std.proofs.Common.{ap, ◌∙◌}
 use Rattle.layers.specs.Windows.{moved}
 use Rattle.layers.specs.WindowsLemmas.{refreshed_moved}
 use Rattle.layers.proofs.window.WindowChip.refreshed.Goals as goal

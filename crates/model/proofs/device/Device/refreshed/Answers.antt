@@ -1,4 +1,4 @@
-use Rattle.std.proofs.Common.{◌≡◌, ◌+◌, ◌*◌, ◌≤◌, ap, ◌∙◌, subst, arith}
+use Rattle.std.proofs.Common.{◌≡◌, ◌*◌, ◌≤◌, ap, ◌∙◌, subst, arith}
 use Rattle.register.specs.Registers.{kept}
 use Rattle.chip.specs.Meaning.{size}
 use Rattle.model.proofs.Ranges.{range_kept}

@@ -1,4 +1,4 @@
-use Rattle.std.proofs.Common.{true, false, length, sym, refl, ap, ◌∙◌}
+use Rattle.std.proofs.Common.{true, false, length, refl, ap}
 use Rattle.chip.specs.Frames.{sent, takes}
 use Rattle.model.specs.Models.{inside}
 use Rattle.model.proofs.Arms.{from_moves, wrong_phase}

@@ -1,4 +1,4 @@
-use Rattle.std.proofs.Common.{◌≡◌, false, ltb, length, None, vec_items, sym, refl, ap, ◌∙◌}
+use Rattle.std.proofs.Common.{◌≡◌, false, ltb, length, None, vec_items, refl, ap, ◌∙◌}
 use Rattle.frame.specs.Bursts.{at}
 use Rattle.frame.specs.Low.{low_clocks}
 use Rattle.frame.specs.declared.low.Transfer.TheVariants as transfer

@@ -1,4 +1,4 @@
-use Rattle.std.proofs.Common.{not, sym, refl, ap, ◌∙◌}
+use Rattle.std.proofs.Common.{not, refl, ap}
 use Rattle.chip.specs.Frames.{register_write, with_register}
 use Rattle.model.specs.Models.{inside}
 use Rattle.model.proofs.Arms.{refused_by, moves_refused, moves_taken, then_counted}
