@@ -1,2 +1,4 @@
+pub mod Tests
+pub mod Windows
 pub mod Scramblers
 pub mod Stacks

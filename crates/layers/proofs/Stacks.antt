@@ -14,7 +14,7 @@ use Rattle.layers.specs.Scramblers.{key_at}
 use Rattle.layers.specs.Stacks.{stack, LastAt, WrittenComesBack}
 use Rattle.layers.specs.Windows.{shift}
 use Rattle.layers.proofs.Scramblers.{twice, never_refused, strobe_there}
-use Rattle.layers.specs.WindowsLemmas.{lawful_window}
+use Rattle.layers.specs.LawfulWindows.{lawful_window}
 
 -- of the bytes that go to an address, the last unmasked one stays
 written_last : (place : ℕ → ℕ) (d k : List ℕ) (i x old : ℕ) → place i ≡ x → masked k i ≡ false → (n : ℕ) → i < n → ((j : ℕ) → i < j → j < n → masked k j ≡ false → place j ≡ x → ⊥) → written place d k n x old ≡ get_or d i 0

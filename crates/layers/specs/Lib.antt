@@ -1,5 +1,4 @@
 pub mod Windows
 pub mod Scramblers
 pub mod Stacks
-pub mod WindowsLemmas
-pub mod Tests
+pub mod LawfulWindows

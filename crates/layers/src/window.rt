@@ -4,7 +4,7 @@ ghost use Rattle.fault.specs.Refusals.{fault_at};
 ghost use Rattle.fault.specs.declared.Refusal.TheVariants.{WindowTooLarge};
 ghost use Rattle.chip.specs.Frames.{sent, place};
 ghost use Rattle.layers.specs.Windows.{window, shift, lowered};
-ghost use Rattle.layers.specs.WindowsLemmas.{lawful_window};
+ghost use Rattle.layers.specs.LawfulWindows.{lawful_window};
 
 use chip::{Chip, Frame, Kind, Reply, State};
 use fault::{Fault, Refusal};

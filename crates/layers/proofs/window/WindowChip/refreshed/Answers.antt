@@ -1,6 +1,6 @@
 use Rattle.std.proofs.Common.{ap, ◌∙◌}
 use Rattle.layers.specs.Windows.{moved}
-use Rattle.layers.specs.WindowsLemmas.{refreshed_moved}
+use Rattle.layers.proofs.Windows.{refreshed_moved}
 use Rattle.layers.proofs.window.WindowChip.refreshed.Goals as goal
 
 pub returns : goal.returns

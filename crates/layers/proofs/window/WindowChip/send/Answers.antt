@@ -1,5 +1,5 @@
 use Rattle.std.proofs.Common.{length}
-use Rattle.layers.specs.WindowsLemmas.{answered, faulted}
+use Rattle.layers.proofs.Windows.{answered, faulted}
 use Rattle.layers.proofs.window.WindowChip.send.Goals as goal
 
 pub returns-in-Ok : goal.returns-in-Ok
