@@ -7,7 +7,7 @@ ghost use Rattle.frame.specs.declared.make.Make.TheVariants as make;
 ghost use Rattle.model.specs.Fresh.{unmade, Fresh};
 ghost use Rattle.model.specs.Models.{inside, meaning, Steps, Restarts};
 ghost use Rattle.model.specs.Wins.{WritesWin};
-ghost use Rattle.std.proofs.Common.{rules, arith};
+ghost use Rattle.std.proofs.Common.{rules};
 
 use crate::device::Device;
 use crate::make::Unmade;
@@ -45,7 +45,7 @@ impl ModelS {
 impl Chip for ModelS {
     ghost meaning = { λ m. meaning (inside m.device) };
 
-    ghost lawful = { first_of (Prim.search rules, Prim.grind (arith, Self.row.coded.inj)) };
+    ghost lawful = { Prim.search rules };
 
     fn kind(&self) -> Kind {
         self.device.kind
