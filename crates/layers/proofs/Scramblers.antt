@@ -211,8 +211,8 @@ module _ (key : List ℕ) (m n : Meaning) (gap : ℕ) (below : Sent) (b : Burst)
 
 -- a burst, or its copy, is combined along its course
 pub along : (c : Course) (key : List ℕ) (m : Meaning) (b : Burst) (a : ℕ) (copy plain mixed : List ℕ) → c.key ≡ key → c.make ≡ m.kind.make → c.burst ≡ on_wire b m.state.mr8 → c.start ≡ a → copy ≡ plain → Combined c.key (at c.make c.burst c.start) copy mixed → Combined key (address m.kind m.state b a) plain mixed
-along c key m b a copy plain mixed key_is make_is burst_is start_is CopyIs is =
-    subst (λ x. Combined key (address m.kind m.state b a) x mixed) CopyIs
+along c key m b a copy plain mixed key_is make_is burst_is start_is copy_is is =
+    subst (λ x. Combined key (address m.kind m.state b a) x mixed) copy_is
     (subst (λ (x : Course). Combined x.key (at x.make x.burst x.start) copy mixed) (λ i. record { key = key_is i; make = make_is i; burst = burst_is i; start = start_is i }) is)
 
 -- ---- a write
