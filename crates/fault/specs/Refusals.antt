@@ -33,5 +33,5 @@ account (NoStrobe k) = record { number = 19; layer = Chip; good = Some k }
 account WindowTooLarge = refuses Chip 20
 
 -- a refusal with its place
-abbrev pub fault_at : Refusal → ℕ → Fault
+abbrev pub fault_at : {P : Type 0} → Refusal → P → Fault P
 fault_at r p = record { refusal = r; place = p }

@@ -1,11 +1,14 @@
 // What is refused and why: one closed list, in checking order, and the place of a refusal.
 #![tactic(auto)]
 
-ghost use Rattle.std.specs.Prelude.{◌≡◌};
+ghost use Rattle.std.specs.Prelude.{◌≡◌, Some};
+ghost use Rattle.fault.specs.Names.{layer_name};
 ghost use Rattle.fault.specs.Refusals.{account, refuses, fault_at};
 
+use std::fmt;
+
 // The software layer that refuses.
-#[derive(Clone, Copy)]
+#[derive(Clone, Copy, Debug, PartialEq, Eq)]
 pub enum Layer {
     Script,
     Port,
@@ -13,7 +16,7 @@ pub enum Layer {
 }
 
 // Why something is refused. The list is closed, and its order is the order of checking.
-#[derive(Clone, Copy)]
+#[derive(Clone, Copy, Debug, PartialEq, Eq)]
 pub enum Refusal {
     // 1: the opening is short or holds a value that is not listed, the input is too long,
     // or a store is not 1 page to 16 MiB of whole pages
@@ -59,7 +62,7 @@ pub enum Refusal {
 }
 
 // What a refusal says in numbers.
-#[derive(Clone, Copy)]
+#[derive(Clone, Copy, Debug, PartialEq, Eq)]
 pub struct Account {
     pub number: u8,
     pub layer: Layer,
@@ -68,11 +71,34 @@ pub struct Account {
 }
 
 // A refusal with its place: a place in the script, else the start of the request or frame as
-// called, else 0.
-#[derive(Clone, Copy)]
-pub struct Fault {
+// called, else 0. A place is an address, or counts the bytes of a slice.
+#[derive(Clone, Copy, Debug, PartialEq, Eq)]
+pub struct Fault<P = u32> {
     pub refusal: Refusal,
-    pub place: u32,
+    pub place: P,
+}
+
+// A refusal that gives back what was handed over.
+#[derive(Drop)]
+pub struct Returned<T> {
+    pub fault: Fault,
+    pub value: T,
+}
+
+// A letter or a code that names nothing.
+#[derive(Clone, Copy, Debug, PartialEq, Eq)]
+pub struct Unknown<T>(pub T);
+
+impl fmt::Display for Layer {
+    ghost output = { λ l. Some (layer_name l) };
+
+    fn fmt<W: fmt::Write>(&self, f: &mut fmt::Formatter<W>) -> fmt::Result {
+        f.write_str(match self {
+            Layer::Script => "script",
+            Layer::Port => "port",
+            Layer::Chip => "chip",
+        })
+    }
 }
 
 impl Layer {
@@ -122,7 +148,7 @@ impl Refusal {
     }
 
     // This refusal at a place.
-    pub fn at(self, place: u32) -> Fault
+    pub fn at<P>(self, place: P) -> Fault<P>
         ensures { result ≡ fault_at self place }
     {
         Fault {
