@@ -1,2 +1,3 @@
 pub mod Times
 pub mod Made
+pub mod Letters

@@ -1,6 +1,6 @@
 // Working the clock numbers out, and what is asked of them.
-ghost use Rattle.std.specs.Prelude.{◌≡◌, Some, None, Decides, MatchResult, nat_le};
-ghost use Rattle.clock.specs.Times.{tcem_ns, latency, clocks};
+ghost use Rattle.std.specs.Prelude.{◌≡◌, ◌≤◌, Some, None, Decides, MatchResult, nat_le};
+ghost use Rattle.clock.specs.Times.{tcem_ns, latency, clocks, started};
 ghost use Rattle.clock.specs.Made.{refused, For, LastsAtMost, period, Nearest};
 
 use crate::numbers::Clock;
@@ -17,6 +17,15 @@ const TRST_NS: u64 = 2_000;
 const TPU_NS: u64 = 150_000;
 
 const TRP_NS: u64 = 1_000;
+
+// The clocks that a time takes up, the last perhaps in part.
+fn started(ns: u64, khz: u32) -> u32
+    requires short { ns ≤ 150000 }
+    requires capped { khz ≤ 133000 }
+    ensures { result ≡ started ns khz }
+{
+    (ns * u64::from(khz)).div_ceil(1_000_000) as u32
+}
 
 impl Range {
     // tCEM in nanoseconds.
@@ -48,11 +57,7 @@ impl Latency {
     pub fn clocks(self) -> u32
         ensures { result ≡ clocks self }
     {
-        match self {
-            Latency::Three => 3,
-            Latency::Four => 4,
-            Latency::Five => 5,
-        }
+        self as u32
     }
 }
 
@@ -66,8 +71,7 @@ impl Clock {
             return Err(Refusal::ClockOutOfRange);
         }
         let latency = Latency::at(khz);
-        let f = u64::from(khz);
-        let tcem = (range.tcem_ns() * f / 1_000_000) as u32;
+        let tcem = (range.tcem_ns() * u64::from(khz) / 1_000_000) as u32;
         if tcem < 35 + 2 * latency.clocks() {
             return Err(Refusal::ClockTooSlow);
         }
@@ -77,11 +81,11 @@ impl Clock {
             lc: latency,
             wl: latency,
             tcem,
-            tcph: ((TCPH_NS * f + 999_999) / 1_000_000) as u32,
-            trc: ((TRC_NS * f + 999_999) / 1_000_000) as u32,
-            trst: ((TRST_NS * f + 999_999) / 1_000_000) as u32,
-            tpu: ((TPU_NS * f + 999_999) / 1_000_000) as u32,
-            trp: ((TRP_NS * f + 999_999) / 1_000_000) as u32,
+            tcph: started(TCPH_NS, khz),
+            trc: started(TRC_NS, khz),
+            trst: started(TRST_NS, khz),
+            tpu: started(TPU_NS, khz),
+            trp: started(TRP_NS, khz),
         })
     }
 

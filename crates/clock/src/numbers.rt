@@ -5,7 +5,7 @@ ghost use Rattle.clock.specs.Times.{TCPH, TRC, TRST, TPU, TRP, tcem_ns, latency,
 use crate::range::{Latency, Range};
 
 // Times of the data sheet as numbers of clocks. Each value of this type holds every equation.
-#[derive(Clone, Copy)]
+#[derive(Clone, Copy, Debug, PartialEq, Eq)]
 pub struct Clock {
     // the clock, in kHz: 1 to 133,000
     pub khz: u32,

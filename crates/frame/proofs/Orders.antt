@@ -12,7 +12,7 @@ use Rattle.frame.specs.declared.burst.Burst.TheVariants.{Linear, Wrapped, Hybrid
 use Rattle.frame.specs.declared.make.Make.{Make}
 use Rattle.frame.specs.declared.make.Make.TheVariants as make
 
--- one lemma for each length that a block or a page can have, over the start and the index
+-- one lemma for each length that a block or a page can have, over the start and the index: a length that varies is not linear
 
 once_16 : (s : ℕ) → Permutes 16 s (wrapped 16 s)
 once_16 s = record {

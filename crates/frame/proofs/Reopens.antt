@@ -1,5 +1,5 @@
 -- A command and its address come back from the bytes that open their frame. Assumes nothing.
-use Rattle.std.proofs.Common.{◌≡◌, ℕ, ◌+◌, ◌*◌, ◌/◌, ◌%◌, ◌<◌, ◌≤◌, List, [], ◌∷◌, length, get_or, Some, Option, sym, refl, ap, ◌∙◌, arith}
+use Rattle.std.proofs.Common.{◌≡◌, ℕ, ◌+◌, ◌*◌, ◌/◌, ◌%◌, ◌<◌, ◌≤◌, List, [], ◌∷◌, length, get_or, Some, None, Option, ◌≢◌, sym, refl, ap, ◌∙◌, arith}
 use Rattle.std.proofs.lemmas.List.{same_lists, places}
 use Rattle.std.proofs.lemmas.Bool.{le-leb, cond-true}
 use Rattle.std.proofs.lemmas.Bool.Decides.{nat_tests}
@@ -37,6 +37,13 @@ gives_back c a h = (
   cond-true _ _ _ (le-leb a (last_address c) h),
   carried_back _ c _ a (code_back c) (joined a (low_bytes c a h)) h,
 )
+
+pub command_at : (c : Command) (b : ℕ) → code c ≡ b → command_of b ≡ Some c
+command_at c b e = ap command_of (sym e) ∙ code_back c
+
+-- a byte that is no code has no command
+pub no_command : (b : ℕ) → ((c : Command) → code c ≢ b) → command_of b ≡ None
+no_command b h = grind (arith, nat_tests, h Read, h LinearRead, h Write, h LinearWrite, h RegisterRead, h RegisterWrite, h GlobalReset)
 
 -- a code has one command
 code_of : (b : ℕ) (c : Command) → command_of b ≡ Some c → code c ≡ b

@@ -3,3 +3,4 @@ pub mod Opening
 pub mod Bursts
 pub mod Orders
 pub mod Low
+pub mod Letters

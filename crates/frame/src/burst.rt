@@ -6,7 +6,7 @@ ghost use Rattle.frame.specs.Orders.{Ordered};
 use crate::make::Make;
 
 // The length of the block that a burst wraps in.
-#[derive(Clone, Copy)]
+#[derive(Clone, Copy, Debug, PartialEq, Eq)]
 pub enum Block {
     Bytes16,
     Bytes32,
@@ -14,7 +14,7 @@ pub enum Block {
     Page,
 }
 
-#[derive(Clone, Copy)]
+#[derive(Clone, Copy, Debug, PartialEq, Eq)]
 pub enum Burst {
     // on from the start, and round in the page
     Linear,
@@ -50,6 +50,7 @@ impl Block {
 
 impl Burst {
     // The address of byte `i`, from 0, of a burst from `start`.
+    #[tactic(auto, using(crate::proofs::Orders::ordered))]
     pub fn address(self, make: Make, start: u32, i: usize) -> u32
         ensures value { result ≡ at make self start i }
         ensures ordered { Ordered make start }

@@ -1,23 +1,38 @@
 // The commands, and the five bytes that open a frame.
-ghost use Rattle.std.specs.Prelude.{◌≡◌, ◌+◌, ◌*◌};
-ghost use Rattle.frame.specs.Opening.{code, command_of, last_address, opening, opened, GivesBack, Opens};
+ghost use Rattle.std.specs.Prelude.{◌≡◌};
+ghost use Rattle.fault.specs.Names.{Named};
+ghost use Rattle.frame.specs.Opening.{code, last_address, opening, opened, GivesBack, Opens};
 
-#[derive(Clone, Copy)]
+use fault::Unknown;
+
+#[derive(Clone, Copy, Debug, PartialEq, Eq)]
 pub enum Command {
-    Read,
-    LinearRead,
-    Write,
-    LinearWrite,
-    RegisterRead,
-    RegisterWrite,
-    GlobalReset,
+    Read = 0x00,
+    LinearRead = 0x20,
+    Write = 0x80,
+    LinearWrite = 0xa0,
+    RegisterRead = 0x40,
+    RegisterWrite = 0xc0,
+    GlobalReset = 0xff,
 }
 
-// The number that four bytes write, high byte first.
-fn address_of(a3: u8, a2: u8, a1: u8, a0: u8) -> u32
-    ensures { result ≡ a3 * 16777216 + a2 * 65536 + a1 * 256 + a0 }
-{
-    u32::from_be_bytes([a3, a2, a1, a0])
+impl TryFrom<u8> for Command {
+    type Error = Unknown<u8>;
+
+    ghost try_from_gives = { Named code };
+
+    fn try_from(code: u8) -> Result<Command, Unknown<u8>> {
+        match code {
+            0x00 => Ok(Command::Read),
+            0x20 => Ok(Command::LinearRead),
+            0x80 => Ok(Command::Write),
+            0xa0 => Ok(Command::LinearWrite),
+            0x40 => Ok(Command::RegisterRead),
+            0xc0 => Ok(Command::RegisterWrite),
+            0xff => Ok(Command::GlobalReset),
+            _ => Err(Unknown(code)),
+        }
+    }
 }
 
 impl Command {
@@ -25,30 +40,7 @@ impl Command {
     pub fn code(self) -> u8
         ensures { result ≡ code self }
     {
-        match self {
-            Command::Read => 0x00,
-            Command::LinearRead => 0x20,
-            Command::Write => 0x80,
-            Command::LinearWrite => 0xa0,
-            Command::RegisterRead => 0x40,
-            Command::RegisterWrite => 0xc0,
-            Command::GlobalReset => 0xff,
-        }
-    }
-
-    fn of_code(code: u8) -> Option<Command>
-        ensures { result ≡ command_of «code» }
-    {
-        match code {
-            0x00 => Some(Command::Read),
-            0x20 => Some(Command::LinearRead),
-            0x80 => Some(Command::Write),
-            0xa0 => Some(Command::LinearWrite),
-            0x40 => Some(Command::RegisterRead),
-            0xc0 => Some(Command::RegisterWrite),
-            0xff => Some(Command::GlobalReset),
-            _ => None,
-        }
+        self as u8
     }
 
     // The largest address that a frame of this command carries.
@@ -65,6 +57,7 @@ impl Command {
 
     // The five bytes that open a frame: the command, a 0, and the address, high byte first.
     // None where the address does not fit.
+    #[tactic(auto, using(crate::proofs::Reopens::gives_back))]
     pub fn opening(self, address: u32) -> Option<[u8; 5]>
         ensures value { result ≡ opening self address }
         ensures gives_back { GivesBack }
@@ -77,13 +70,14 @@ impl Command {
     }
 
     // The command and the address that five bytes open a frame of; None where they open none.
+    #[tactic(auto, using(crate::proofs::Reopens::command_at, crate::proofs::Reopens::no_command))]
     pub fn opened(bytes: [u8; 5]) -> Option<(Command, u32)>
         ensures value { result ≡ opened bytes }
         ensures opens { Opens bytes result }
     {
-        let [first, a3, a2, a1, a0] = bytes;
-        let command = Command::of_code(first)?;
-        let address = address_of(a3, a2, a1, a0);
+        let [first, a3, a2, a1, a0] = &bytes;
+        let command = Command::try_from(*first).ok()?;
+        let address = u32::from_be_bytes([*a3, *a2, *a1, *a0]);
         if address > command.last_address() {
             return None;
         }

@@ -5,8 +5,10 @@ mod burst;
 mod command;
 mod low;
 mod make;
+mod span;
 
 pub use burst::{Block, Burst};
 pub use command::Command;
 pub use low::{Transfer, low_clocks_of};
 pub use make::Make;
+pub use span::Span;

@@ -5,7 +5,7 @@ ghost use Rattle.frame.specs.Low.{low_clocks, low_clocks_of, held};
 use clock::Latency;
 
 // What one frame carries, with its latency.
-#[derive(Clone, Copy)]
+#[derive(Clone, Copy, Debug, PartialEq, Eq)]
 pub enum Transfer {
     // this many bytes, after a latency of LC to 2 LC clocks
     Read { latency: u32, bytes: usize },

@@ -1,9 +1,14 @@
 // The two makes of chip.
-ghost use Rattle.std.specs.Prelude.{◌≡◌};
+ghost use Rattle.std.specs.Prelude.{◌≡◌, Some, [], ◌∷◌};
+ghost use Rattle.fault.specs.Names.{Named};
+ghost use Rattle.frame.specs.Letters.{letter};
 ghost use Rattle.frame.specs.Pages.{page, row_and_column};
 
+use fault::Unknown;
+use std::fmt;
+
 // A is the APS12808L-3OBM, S the SCB18X128800AF in its 8-bit mode.
-#[derive(Clone, Copy)]
+#[derive(Clone, Copy, Debug, PartialEq, Eq)]
 pub enum Make {
     A,
     S,
@@ -26,5 +31,30 @@ impl Make {
     {
         let page = self.page();
         (address / page, address % page)
+    }
+}
+
+impl TryFrom<char> for Make {
+    type Error = Unknown<char>;
+
+    ghost try_from_gives = { Named letter };
+
+    fn try_from(letter: char) -> Result<Make, Unknown<char>> {
+        match letter {
+            'A' => Ok(Make::A),
+            'S' => Ok(Make::S),
+            _ => Err(Unknown(letter)),
+        }
+    }
+}
+
+impl fmt::Display for Make {
+    ghost output = { λ m. Some (letter m ∷ []) };
+
+    fn fmt<W: fmt::Write>(&self, f: &mut fmt::Formatter<W>) -> fmt::Result {
+        f.write_str(match self {
+            Make::A => "A",
+            Make::S => "S",
+        })
     }
 }

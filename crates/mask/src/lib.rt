@@ -16,10 +16,8 @@ pub fn size(length: usize) -> usize
 pub fn masked(mask: &[u8], i: usize) -> bool
     ensures { result ≡ masked mask.now i }
 {
-    match mask.get(i / 8) {
-        Some(byte) => (byte >> (i % 8)) % 2 == 1,
-        None => false,
-    }
+    mask.get(i / 8)
+        .is_some_and(|byte| (byte >> (i % 8)) % 2 == 1)
 }
 
 // The bits of byte `k` of a mask that are at or past bit `from`.

@@ -6,9 +6,9 @@ use Rattle.frame.specs.declared.burst.Block.{Block}
 use Rattle.frame.specs.declared.burst.Block.TheVariants as block
 use Rattle.frame.specs.declared.burst.Burst.{Burst}
 use Rattle.frame.specs.declared.burst.Burst.TheVariants.{Linear, Wrapped, Hybrid}
+use Rattle.frame.specs.declared.span.Span.{Span}
 use Rattle.register.specs.declared.fields.Coverage.{Coverage}
 use Rattle.register.specs.declared.fields.Coverage.TheVariants.{All, BottomHalf, BottomQuarter, BottomEighth, Nothing, TopHalf, TopQuarter, TopEighth}
-use Rattle.register.specs.declared.fields.Kept.{Kept}
 use Rattle.register.specs.declared.fields.LatencyType.{LatencyType}
 use Rattle.register.specs.declared.fields.LatencyType.TheVariants.{Variable, Fixed}
 use Rattle.register.specs.declared.fields.Line.{Line}
@@ -70,13 +70,13 @@ accepts n v =
     cond (n == 0) (not (mr0_reserved v)) (cond (n == 4) (not (mr4_reserved v)) (cond (n == 8) (not (mr8_reserved v)) false))
 
 -- the addresses that a coverage keeps, of a size: a part at the bottom or at the top
-abbrev pub bottom : ℕ → ℕ → Kept
+abbrev pub bottom : ℕ → ℕ → Span
 bottom size part = record { from = 0; to = size / part }
 
-abbrev pub top : ℕ → ℕ → Kept
+abbrev pub top : ℕ → ℕ → Span
 top size part = record { from = size - size / part; to = size }
 
-abbrev pub kept : Coverage → ℕ → Kept
+abbrev pub kept : Coverage → ℕ → Span
 kept All size = bottom size 1
 kept BottomHalf size = bottom size 2
 kept BottomQuarter size = bottom size 4

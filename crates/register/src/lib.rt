@@ -5,6 +5,6 @@ mod fields;
 mod table;
 mod values;
 
-pub use fields::{Coverage, Kept, LatencyType, Line, Mr0, Mr4};
+pub use fields::{Coverage, LatencyType, Line, Mr0, Mr4, Mr8};
 pub use table::{accepts, after_reset, readable, writable};
-pub use values::{mr8_burst, on_wire};
+pub use values::on_wire;

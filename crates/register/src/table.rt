@@ -1,4 +1,5 @@
-// Which registers there are, and what they hold after wake or reset.
+// Which registers there are, and what they hold after wake or reset. A register goes by its number
+// on the wire and is no enum: any byte may be sent as one, and is refused only as a frame's last fault.
 ghost use Rattle.std.specs.Prelude.{◌≡◌};
 ghost use Rattle.register.specs.Registers.{readable, writable, accepts};
 ghost use Rattle.register.specs.Table.{after_reset};

@@ -3,16 +3,16 @@ ghost use Rattle.std.specs.Prelude.{◌≡◌, ◌<◌};
 ghost use Rattle.register.specs.Registers.{mr0, mr4, mr8, on_wire, kept, bottom, top, mr0_value, mr4_value, mr8_value};
 ghost use Rattle.register.specs.Written.{WritesMr0, WritesMr4, WritesMr8};
 
-use crate::fields::{Coverage, Kept, LatencyType, Line, Mr0, Mr4};
+use crate::fields::{Coverage, LatencyType, Line, Mr0, Mr4, Mr8};
 use clock::{Clock, Latency};
-use frame::{Block, Burst};
+use frame::{Block, Burst, Span};
 
-impl Mr0 {
-    // What a value of MR0 means: bit 5 the latency type, bits 4:2 the read code, bits 1:0 the
-    // drive code. A reserved code reads as latency 5, and bits without a name count for nothing.
-    pub fn of(value: u8) -> Mr0
-        ensures { result ≡ mr0 value }
-    {
+// What a value of MR0 means: bit 5 the latency type, bits 4:2 the read code, bits 1:0 the drive
+// code. A reserved code reads as latency 5, and bits without a name count for nothing.
+impl From<u8> for Mr0 {
+    ghost from_gives = { λ v r. r ≡ mr0 v };
+
+    fn from(value: u8) -> Mr0 {
         Mr0 {
             kind: if value / 32 % 2 == 1 {
                 LatencyType::Fixed
@@ -27,7 +27,9 @@ impl Mr0 {
             drive: value % 4,
         }
     }
+}
 
+impl Mr0 {
     // The value of MR0 for a clock, a latency type and a drive code, of which the low two bits
     // are taken.
     pub fn value(clock: &Clock, kind: LatencyType, drive: u8) -> u8
@@ -47,12 +49,12 @@ impl Mr0 {
     }
 }
 
-impl Mr4 {
-    // What a value of MR4 means: bits 7:5 the write code, bits 2:0 the coverage. A reserved code
-    // reads as latency 5, and bits without a name count for nothing.
-    pub fn of(value: u8) -> Mr4
-        ensures { result ≡ mr4 value }
-    {
+// What a value of MR4 means: bits 7:5 the write code, bits 2:0 the coverage. A reserved code reads
+// as latency 5, and bits without a name count for nothing.
+impl From<u8> for Mr4 {
+    ghost from_gives = { λ v r. r ≡ mr4 v };
+
+    fn from(value: u8) -> Mr4 {
         Mr4 {
             wl: match value / 32 {
                 0b000 => Latency::Three,
@@ -71,7 +73,9 @@ impl Mr4 {
             },
         }
     }
+}
 
+impl Mr4 {
     // The value of MR4 for a clock and a coverage.
     pub fn value(clock: &Clock, coverage: Coverage) -> u8
         ensures value { result ≡ mr4_value clock.now.wl coverage }
@@ -87,21 +91,21 @@ impl Mr4 {
 }
 
 // A part of the size at its bottom, and at its top.
-fn bottom(size: u32, part: u32) -> Kept
+fn bottom(size: u32, part: u32) -> Span
     requires { 0 < part }
     ensures { result ≡ bottom size part }
 {
-    Kept {
+    Span {
         from: 0,
         to: size / part,
     }
 }
 
-fn top(size: u32, part: u32) -> Kept
+fn top(size: u32, part: u32) -> Span
     requires { 0 < part }
     ensures { result ≡ top size part }
 {
-    Kept {
+    Span {
         from: size - size / part,
         to: size,
     }
@@ -109,7 +113,7 @@ fn top(size: u32, part: u32) -> Kept
 
 impl Coverage {
     // The addresses that are refreshed, of a size.
-    pub fn kept(self, size: u32) -> Kept
+    pub fn kept(self, size: u32) -> Span
         ensures { result ≡ kept self size }
     {
         match self {
@@ -117,7 +121,7 @@ impl Coverage {
             Coverage::BottomHalf => bottom(size, 2),
             Coverage::BottomQuarter => bottom(size, 4),
             Coverage::BottomEighth => bottom(size, 8),
-            Coverage::Nothing => Kept { from: 0, to: 0 },
+            Coverage::Nothing => Span { from: 0, to: 0 },
             Coverage::TopHalf => top(size, 2),
             Coverage::TopQuarter => top(size, 4),
             Coverage::TopEighth => top(size, 8),
@@ -126,19 +130,23 @@ impl Coverage {
 }
 
 // What a value of MR8 means: bit 2 is 1 for hybrid, bits 1:0 are the block.
-pub fn mr8_burst(value: u8) -> Burst
-    ensures { result ≡ mr8 value }
-{
-    let block = match value % 4 {
-        0 => Block::Bytes16,
-        1 => Block::Bytes32,
-        2 => Block::Bytes64,
-        _ => Block::Page,
-    };
-    if value / 4 % 2 == 1 {
-        Burst::Hybrid(block)
-    } else {
-        Burst::Wrapped(block)
+impl From<u8> for Mr8 {
+    ghost from_gives = { λ v r. r.burst ≡ mr8 v };
+
+    fn from(value: u8) -> Mr8 {
+        let block = match value % 4 {
+            0 => Block::Bytes16,
+            1 => Block::Bytes32,
+            2 => Block::Bytes64,
+            _ => Block::Page,
+        };
+        Mr8 {
+            burst: if value / 4 % 2 == 1 {
+                Burst::Hybrid(block)
+            } else {
+                Burst::Wrapped(block)
+            },
+        }
     }
 }
 
@@ -163,6 +171,6 @@ pub fn on_wire(carried: Burst, value: u8) -> Burst
 {
     match carried {
         Burst::Linear => Burst::Linear,
-        Burst::Wrapped(_) | Burst::Hybrid(_) => mr8_burst(value),
+        Burst::Wrapped(_) | Burst::Hybrid(_) => Mr8::from(value).burst,
     }
 }
