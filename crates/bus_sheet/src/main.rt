@@ -3,9 +3,9 @@
 #![tactic(auto)]
 
 use clock::{Clock, Range};
-use frame::{Command, Make, Transfer};
-use split::{Splitter, frames_of_read, frames_of_write, rounded};
-use std::io;
+use frame::{Command, Make, Span, Transfer};
+use split::{Direction, Splitter, frames_of, rounded};
+use std::{fmt, io};
 
 // Where the record lies: from an odd address, over the end of a page of A, within one page of S.
 const START: u32 = 0x3e3;
@@ -14,131 +14,119 @@ const LENGTH: u32 = 64;
 
 const CLOCKS: [u32; 6] = [10_250, 41_000, 41_001, 66_000, 109_000, 133_000];
 
-#[derive(Clone, Copy)]
-enum Direction {
-    Read,
-    Write,
+// The numbers of a clock.
+#[derive(Clone, Copy, Debug, PartialEq, Eq)]
+struct Numbers(Clock);
+
+impl fmt::Display for Numbers {
+    fn fmt<W: fmt::Write>(&self, f: &mut fmt::Formatter<W>) -> fmt::Result {
+        let k = self.0;
+        let period = k.period();
+        let lc = k.lc.clocks();
+        let wl = k.wl.clocks();
+        write!(f, "period {period} ps, LC {lc}, WL {wl}, ")?;
+        write!(f, "tCEM {}, tCPH {}, tRC {}, ", k.tcem, k.tcph, k.trc)?;
+        write!(f, "tRST {}, tPU {}, tRP {}", k.trst, k.tpu, k.trp)
+    }
 }
 
-impl Direction {
-    fn name(self) -> &'static str {
-        match self {
-            Direction::Read => "read",
-            Direction::Write => "write",
+// The bytes that open a frame, in hexadecimal digits (as `bus_trace` shows them: in `frame` these lines
+// would have to promise their bytes, which nothing else wants).
+#[derive(Clone, Copy, Debug, PartialEq, Eq)]
+struct OpeningBytes(Option<[u8; 5]>);
+
+impl fmt::Display for OpeningBytes {
+    fn fmt<W: fmt::Write>(&self, f: &mut fmt::Formatter<W>) -> fmt::Result {
+        match self.0 {
+            Some(bytes) => {
+                let [code, a3, a2, a1, a0] = bytes;
+                write!(f, "{code:02X} {a3:02X} {a2:02X} {a1:02X} {a0:02X}")
+            }
+            None => f.write_str("no frame"),
         }
     }
+}
 
-    fn command(self) -> Command {
-        match self {
-            Direction::Read => Command::LinearRead,
-            Direction::Write => Command::LinearWrite,
-        }
-    }
+// A frame that carries one piece of the record.
+#[derive(Clone, Copy, Debug, PartialEq, Eq)]
+struct Frame {
+    direction: Direction,
+    clock: Clock,
+    piece: Span,
+}
 
-    fn splitter(self, make: Make, clock: &Clock) -> Splitter {
-        match self {
-            Direction::Read => Splitter::for_reads(make, clock, clock.lc),
-            Direction::Write => Splitter::for_writes(make, clock, clock.wl),
-        }
-    }
-
-    // The least and the most low clocks of a frame: a read may take twice its latency.
-    fn low_clocks(self, clock: &Clock, bytes: u32) -> (u64, u64) {
-        let bytes = bytes as usize;
-        match self {
+impl Frame {
+    // The least and the most low clocks: a read may take twice its latency.
+    fn low_clocks(&self) -> (u64, u64) {
+        let bytes = self.piece.bytes() as usize;
+        let latency = self.direction.latency(&self.clock);
+        match self.direction {
             Direction::Read => {
-                let latency = clock.lc.clocks();
-                let least = Transfer::Read { latency, bytes };
+                let least = Transfer::Read {
+                    latency: latency.clocks(),
+                    bytes,
+                };
                 let most = Transfer::Read {
-                    latency: 2 * latency,
+                    latency: 2 * latency.clocks(),
                     bytes,
                 };
                 (least.low_clocks(), most.low_clocks())
             }
             Direction::Write => {
-                let low = Transfer::Write {
-                    latency: clock.wl,
-                    bytes,
-                }
-                .low_clocks();
+                let low = Transfer::Write { latency, bytes }.low_clocks();
                 (low, low)
             }
         }
     }
 }
 
-fn opening_bytes(rt: &HostRuntime, command: Command, address: u32) -> io::Result<()> {
-    match command.opening(address) {
-        Some(bytes) => {
-            let [code, a3, a2, a1, a0] = bytes;
-            print!(rt; "{code:02X} {a3:02X} {a2:02X} {a1:02X} {a0:02X}")
-        }
-        None => print!(rt; "no frame"),
+impl fmt::Display for Frame {
+    fn fmt<W: fmt::Write>(&self, f: &mut fmt::Formatter<W>) -> fmt::Result {
+        let (name, command) = match self.direction {
+            Direction::Read => ("read", Command::LinearRead),
+            Direction::Write => ("write", Command::LinearWrite),
+        };
+        let opening = OpeningBytes(command.opening(self.piece.from));
+        let bytes = self.piece.bytes();
+        let (least, most) = self.low_clocks();
+        let left = u64::from(self.clock.tcem).saturating_sub(most);
+        write!(
+            f,
+            "  {name} {opening}, {bytes} bytes, low {least} to {most}, left {left}"
+        )
     }
 }
 
-fn frame_line(
-    rt: &HostRuntime,
-    way: Direction,
-    clock: &Clock,
-    at: u32,
-    bytes: u32,
-) -> io::Result<()> {
-    let name = way.name();
-    let (least, most) = way.low_clocks(clock, bytes);
-    let left = u64::from(clock.tcem).saturating_sub(most);
-    print!(rt; "  {name} ")?;
-    opening_bytes(rt, way.command(), at)?;
-    println!(rt; ", {bytes} bytes, low {least} to {most}, left {left}")
-}
-
-fn frames(rt: &HostRuntime, way: Direction, make: Make, clock: &Clock) -> io::Result<()> {
-    let Some((from, to)) = rounded(START, LENGTH) else {
+// Where the record lies, how many frames it takes, and these.
+fn record(rt: &HostRuntime, make: Make, clock: Clock) -> io::Result<()> {
+    let (row, column) = make.row_and_column(START);
+    let frames = |way| frames_of(way, make, &clock, START, LENGTH).unwrap_or(0);
+    let (reads, writes) = (frames(Direction::Read), frames(Direction::Write));
+    println!(rt; "  row {row}, column {column}, frames {reads} to read, {writes} to write")?;
+    let Some(span) = rounded(START, LENGTH) else {
         return Ok(());
     };
-    let splitter = way.splitter(make, clock);
-    let mut at = from;
-    for _ in 0..splitter.count(from, to) {
-        let bytes = splitter.next(at, to);
-        frame_line(rt, way, clock, at, bytes)?;
-        at = at.saturating_add(bytes);
+    for direction in [Direction::Read, Direction::Write] {
+        let splitter = Splitter::new(direction, make, &clock, direction.latency(&clock));
+        for piece in splitter.pieces(span) {
+            let frame = Frame {
+                direction,
+                clock,
+                piece,
+            };
+            println!(rt; "{frame}")?;
+        }
     }
     Ok(())
 }
 
-fn clock_line(rt: &HostRuntime, k: &Clock) -> io::Result<()> {
-    let period = k.period();
-    let lc = k.lc.clocks();
-    let wl = k.wl.clocks();
-    print!(rt; "period {period} ps, LC {lc}, WL {wl}, ")?;
-    print!(rt; "tCEM {}, tCPH {}, tRC {}, ", k.tcem, k.tcph, k.trc)?;
-    println!(rt; "tRST {}, tPU {}, tRP {}", k.trst, k.tpu, k.trp)
-}
-
-// Where the record lies, and how many frames it takes.
-fn place_line(rt: &HostRuntime, make: Make, clock: &Clock) -> io::Result<()> {
-    let (row, column) = make.row_and_column(START);
-    let reads = frames_of_read(make, clock, START, LENGTH).unwrap_or(0);
-    let writes = frames_of_write(make, clock, START, LENGTH).unwrap_or(0);
-    println!(rt; "  row {row}, column {column}, frames {reads} to read, {writes} to write")
-}
-
 fn sheet(rt: &HostRuntime, make: Make, range: Range, khz: u32) -> io::Result<()> {
-    let chip = match make {
-        Make::A => 'A',
-        Make::S => 'S',
-    };
-    let letter = match range {
-        Range::Normal => 'N',
-        Range::Extended => 'X',
-    };
-    print!(rt; "{chip} {letter} {khz} kHz: ")?;
+    print!(rt; "{make} {range} {khz} kHz: ")?;
     match Clock::new(khz, range) {
         Ok(clock) => {
-            clock_line(rt, &clock)?;
-            place_line(rt, make, &clock)?;
-            frames(rt, Direction::Read, make, &clock)?;
-            frames(rt, Direction::Write, make, &clock)
+            let numbers = Numbers(clock);
+            println!(rt; "{numbers}")?;
+            record(rt, make, clock)
         }
         Err(refusal) => {
             let number = refusal.account().number;

@@ -7,17 +7,18 @@ use Rattle.frame.specs.declared.burst.Block.TheVariants.{Bytes16}
 use Rattle.frame.specs.declared.burst.Burst.TheVariants.{Hybrid}
 use Rattle.frame.specs.declared.make.Make.{Make}
 use Rattle.frame.specs.declared.make.Make.TheVariants as make
-use Rattle.split.specs.Edges.{writes, EdgeValues}
+use Rattle.split.specs.declared.direction.Direction.TheVariants.{Write}
+use Rattle.split.specs.Edges.{frames_at, EdgeValues}
 
 hybrid : (m : Make) → map (at m (Hybrid Bytes16) 2) (range_with_len 0 18) ≡ 2 ∷ 3 ∷ 4 ∷ 5 ∷ 6 ∷ 7 ∷ 8 ∷ 9 ∷ 10 ∷ 11 ∷ 12 ∷ 13 ∷ 14 ∷ 15 ∷ 0 ∷ 1 ∷ 16 ∷ 17 ∷ []
 hybrid make.A = refl
 hybrid make.S = refl
 
-write_one : (m : Make) → writes m 133000 Extended 0 250 ≡ 1
+write_one : (m : Make) → frames_at Write m 133000 Extended 0 250 ≡ 1
 write_one make.A = refl
 write_one make.S = refl
 
-write_longer : (m : Make) → writes m 133000 Extended 0 251 ≡ 2
+write_longer : (m : Make) → frames_at Write m 133000 Extended 0 251 ≡ 2
 write_longer make.A = refl
 write_longer make.S = refl
 

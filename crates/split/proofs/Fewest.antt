@@ -1,12 +1,11 @@
 -- No lawful split has fewer pieces than the one that takes the longest each time. Assumes nothing.
-use Rattle.std.proofs.Common.{◌≡◌, ℕ, zero, suc, ◌+◌, ◌-◌, ◌%◌, ◌<◌, ◌≤◌, Bool, List, [], ◌∷◌, length, ap, ⊎_elim, arith}
-use Rattle.std.proofs.lemmas.Bool.{cases_lt}
+use Rattle.std.proofs.Common.{◌≡◌, ℕ, zero, suc, ◌+◌, ◌-◌, ◌%◌, ◌<◌, ◌≤◌, Bool, List, [], ◌∷◌, length, ap, arith}
 use Rattle.std.proofs.lemmas.Bool.Decides.{nat_tests}
 use Rattle.frame.specs.Pages.{page}
 use Rattle.frame.specs.declared.make.Make.{Make}
 use Rattle.frame.specs.declared.make.Make.TheVariants as make
 use Rattle.split.specs.Splits.{fits, Lawful, taking, ClosedUnderParts, TakesLongest, LongestFirstIsFewest, Fewest}
-use Rattle.split.proofs.Longest.{takes_longest, taking_none, taking_one}
+use Rattle.split.proofs.Longest.{takes_longest, taking_none}
 
 -- a split ends at or past its start
 ends_later : (fit : ℕ → ℕ → Bool) (s e : ℕ) (ns : List ℕ) → Lawful fit s e ns → s ≤ e
@@ -19,14 +18,7 @@ module _ {fit : ℕ → ℕ → Bool} {next : ℕ → ℕ → ℕ} (closed : Clo
   ahead most p q e [] h i j same = omega (arith, ap length (taking_none rule most q e (omega arith)))
   ahead zero p q e (n ∷ ns) h i j split = omega arith
   ahead (suc most) p q e (n ∷ ns) h i j (f, even, rest) =
-      ⊎_elim
-      (λ inside.
-      let by = ends_later fit (p + n) e ns rest in
-      let more : q < e = omega arith in
-      let long = rule.most q e (p + n - q) (closed p n q (p + n - q) f i (omega arith) (omega arith)) (omega arith) in
-      omega (arith, ap length (taking_one rule most q e more), ahead most (p + n) (q + next q e) e ns (omega (arith, rule.some q e more)) (omega arith) (rule.within q e more) rest))
-      (λ behind. omega (arith, ahead (suc most) (p + n) q e ns h behind j rest))
-      (cases_lt q (p + n))
+      grind (arith, nat_tests, ends_later fit (p + n) e ns rest, closed p n q (p + n - q) f i, rule.most q e (p + n - q), rule.some q e, rule.within q e, ahead most (p + n) (q + next q e) e ns, ahead (suc most) (p + n) q e ns)
 
 pub fewest : LongestFirstIsFewest
 fewest fit next closed rule s e ns split = ahead closed rule (e - s) s s e ns (omega arith) (omega arith) (ends_later fit s e ns split) split

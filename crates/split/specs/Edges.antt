@@ -14,14 +14,13 @@ use Rattle.frame.specs.declared.burst.Burst.TheVariants.{Hybrid}
 use Rattle.frame.specs.declared.command.Command.TheVariants.{LinearRead}
 use Rattle.frame.specs.declared.make.Make.{Make}
 use Rattle.frame.specs.declared.make.Make.TheVariants as make
-use Rattle.split.specs.Splits.{read_frames, write_frames}
+use Rattle.split.specs.Splits.{frames}
+use Rattle.split.specs.declared.direction.Direction.{Direction}
+use Rattle.split.specs.declared.direction.Direction.TheVariants.{Read, Write}
 
--- frames of a read, and of a write, of n bytes from s
-abbrev pub reads : Make → ℕ → Range → ℕ → ℕ → ℕ
-reads m khz range s n = read_frames (page m) (whole (tcem_ns range) khz) (latency khz) s n
-
-abbrev pub writes : Make → ℕ → Range → ℕ → ℕ → ℕ
-writes m khz range s n = write_frames (page m) (whole (tcem_ns range) khz) (latency khz) s n
+-- frames of n bytes from s in one direction
+abbrev pub frames_at : Direction → Make → ℕ → Range → ℕ → ℕ → ℕ
+frames_at d m khz range s n = frames d (page m) (whole (tcem_ns range) khz) (latency khz) s n
 
 pub record EdgeValues : Type 0 where
   -- 133,000 kHz: the clock numbers
@@ -44,9 +43,9 @@ pub record EdgeValues : Type 0 where
   -- hybrid 16 from 2, 18 bytes
   pub hybrid : (m : Make) → map (at m (Hybrid Bytes16) 2) (range_with_len 0 18) ≡ 2 ∷ 3 ∷ 4 ∷ 5 ∷ 6 ∷ 7 ∷ 8 ∷ 9 ∷ 10 ∷ 11 ∷ 12 ∷ 13 ∷ 14 ∷ 15 ∷ 0 ∷ 1 ∷ 16 ∷ 17 ∷ []
   -- S in the normal range at 133,000 kHz: the longest read in one frame
-  pub read_one : reads make.S 133000 Normal 0 1038 ≡ 1
-  pub read_longer : reads make.S 133000 Normal 0 1040 ≡ 2
-  pub read_odd : reads make.S 133000 Normal 1 1038 ≡ 2
+  pub read_one : frames_at Read make.S 133000 Normal 0 1038 ≡ 1
+  pub read_longer : frames_at Read make.S 133000 Normal 0 1040 ≡ 2
+  pub read_odd : frames_at Read make.S 133000 Normal 1 1038 ≡ 2
   -- the extended range at 133,000 kHz: the longest write in one frame
-  pub write_one : (m : Make) → writes m 133000 Extended 0 250 ≡ 1
-  pub write_longer : (m : Make) → writes m 133000 Extended 0 251 ≡ 2
+  pub write_one : (m : Make) → frames_at Write m 133000 Extended 0 250 ≡ 1
+  pub write_longer : (m : Make) → frames_at Write m 133000 Extended 0 251 ≡ 2

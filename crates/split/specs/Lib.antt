@@ -1,2 +1,4 @@
+pub mod Directions
 pub mod Splits
+pub mod Pieces
 pub mod Edges

@@ -1,16 +1,11 @@
 -- How a range is split into pieces, one for each frame. Assumes nothing.
-use Rattle.std.specs.Prelude.{◌≡◌, ℕ, zero, suc, ◌+◌, ◌-◌, ◌*◌, ◌%◌, ◌^◌, ◌<◌, ◌≤◌, min, Bool, true, cond, ◌&&◌, List, [], ◌∷◌, length, Some, None, Option, nat_le, nat_lt}
-use Rattle.clock.specs.Times.{clocks}
-use Rattle.frame.specs.Low.{low_clocks}
-use Rattle.frame.specs.declared.low.Transfer.{Transfer}
+use Rattle.std.specs.Prelude.{◌≡◌, ℕ, zero, suc, ◌+◌, ◌-◌, ◌%◌, ◌^◌, ◌<◌, ◌≤◌, min, Bool, true, cond, ◌&&◌, List, [], ◌∷◌, length, Some, None, Option, nat_le, nat_lt}
 use Rattle.clock.specs.declared.range.Latency.{Latency}
-
--- the most bytes of one frame: CE# is low for 3 clocks, the latency, and a clock for each two bytes. A read may take 2 LC
-abbrev pub read_limit : ℕ → Latency → ℕ
-read_limit tcem lc = 2 * (tcem - 3 - 2 * clocks lc)
-
-abbrev pub write_limit : ℕ → Latency → ℕ
-write_limit tcem wl = 2 * (tcem - 3 - clocks wl)
+use Rattle.frame.specs.Low.{low_clocks}
+use Rattle.frame.specs.declared.span.Span.{Span}
+use Rattle.frame.specs.declared.low.Transfer.{Transfer}
+use Rattle.split.specs.Directions.{limit}
+use Rattle.split.specs.declared.direction.Direction.{Direction}
 
 -- a frame of n bytes keeps tCEM exactly where n is at most the limit
 pub record Keeps (frame : ℕ → Transfer) (tcem limit : ℕ) : Type 0 where
@@ -28,8 +23,8 @@ rounded_from s = s - s % 2
 abbrev pub rounded_to : ℕ → ℕ → ℕ
 rounded_to s n = s + n + (s + n) % 2
 
-abbrev pub rounded : ℕ → ℕ → Option (ℕ × ℕ)
-rounded s n = cond (nat_lt (rounded_to s n) (2 ^ 32)) (Some (rounded_from s, rounded_to s n)) None
+abbrev pub rounded : ℕ → ℕ → Option Span
+rounded s n = cond (nat_lt (rounded_to s n) (2 ^ 32)) (Some (record { from = rounded_from s; to = rounded_to s n })) None
 
 -- lengths of consecutive pieces from s to e that all fit, each even: from an even s all ends are even
 abbrev pub Lawful : (ℕ → ℕ → Bool) → ℕ → ℕ → List ℕ → Type 0
@@ -48,6 +43,15 @@ taking next (suc most) s e = cond (nat_lt s e) (next s e ∷ taking next most (s
 -- the split that takes the longest piece each time
 abbrev pub longest_first : ℕ → ℕ → ℕ → ℕ → List ℕ
 longest_first p limit s e = taking (next_piece p limit) (e - s) s e
+
+-- pieces of these lengths, one after the other from s
+abbrev pub placed : ℕ → List ℕ → List Span
+placed s [] = []
+placed s (n ∷ ns) = record { from = s; to = s + n } ∷ placed (s + n) ns
+
+-- the pieces of that split
+abbrev pub pieces : ℕ → ℕ → ℕ → ℕ → List Span
+pieces p limit s e = placed s (longest_first p limit s e)
 
 -- a predicate that holds of every part of a piece that it holds of
 abbrev pub ClosedUnderParts : (ℕ → ℕ → Bool) → Type 0
@@ -71,12 +75,9 @@ LongestFirstIsFewest =
 abbrev pub Fewest : ℕ → ℕ → Type 0
 Fewest p limit = (s e : ℕ) (ns : List ℕ) → Lawful (fits p limit) s e ns → length (longest_first p limit s e) ≤ length ns
 
--- the number of frames that a read, and a write, of n bytes from s takes at a clock: the pieces of the rounded range
-abbrev pub read_frames : ℕ → ℕ → Latency → ℕ → ℕ → ℕ
-read_frames p tcem lc s n = length (longest_first p (read_limit tcem lc) (rounded_from s) (rounded_to s n))
-
-abbrev pub write_frames : ℕ → ℕ → Latency → ℕ → ℕ → ℕ
-write_frames p tcem wl s n = length (longest_first p (write_limit tcem wl) (rounded_from s) (rounded_to s n))
+-- the number of frames that n bytes from s take at a clock: the pieces of the rounded range
+abbrev pub frames : Direction → ℕ → ℕ → Latency → ℕ → ℕ → ℕ
+frames d p tcem l s n = length (longest_first p (limit d tcem l) (rounded_from s) (rounded_to s n))
 
 -- a count of frames, where the range has an end that fits
 abbrev pub if_rounded : ℕ → ℕ → ℕ → Option ℕ

@@ -1,8 +1,12 @@
 // Splitting a range of addresses into pieces, one for each frame.
 #![tactic(auto)]
 
+mod direction;
+mod frames;
 mod pieces;
 mod splitter;
 
-pub use pieces::{frames_of_read, frames_of_write, rounded};
+pub use direction::Direction;
+pub use frames::{frames_of, rounded};
+pub use pieces::Pieces;
 pub use splitter::Splitter;

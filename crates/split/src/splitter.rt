@@ -4,7 +4,7 @@ ghost use Rattle.std.specs.Prelude.{◌≡◌, ◌%◌, ◌<◌};
 use frame::Make;
 
 // Splits ranges into pieces, each of which lies in one page and has at most `limit` bytes.
-#[derive(Clone, Copy)]
+#[derive(Clone, Copy, Debug, PartialEq, Eq)]
 pub struct Splitter {
     pub make: Make,
     pub limit: u32,

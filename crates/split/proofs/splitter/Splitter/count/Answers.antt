@@ -1,17 +1,29 @@
-use Rattle.std.proofs.Common.{arith}
-use Rattle.split.proofs.Longest.{takes_longest, count_all, count_more, lawful}
+use Rattle.std.proofs.Common.{length, ap, ◌∙◌, inl, arith}
+use Rattle.std.proofs.lemmas.Iterator.Consumers.{YieldsList-from_first, count_from_yields_List}
+use Rattle.split.proofs.Fewest.{fewest, fewest_here}
+use Rattle.split.proofs.Longest.{few, length_placed, takes_longest, lawful}
+use Rattle.split.specs.Pieces.{pieces_left}
 use Rattle.split.proofs.splitter.Splitter.count.Goals as goal
 
-pub loop-at-preserved : goal.loop-at-preserved
-loop-at-preserved c =
-    let rule = c.next-at.ensures.longest in
-    let more = c.loop-at-test.true in
-    let some = rule.some _ _ more in
-    let is = c.next-at.ensures.value in
-    (omega arith, count_more rule _ _ _ _ _ more is c.loop-at.invariant.1)
+pub count-requires-clause-fits : goal.count-requires-clause-fits
+count-requires-clause-fits c = inl (omega (arith, ap length c.pieces.ensures, length_placed, few))
 
-pub returns : goal.returns
-returns c =
+pub overflow_cast-result : goal.overflow_cast-result
+overflow_cast-result c = omega (arith, ap length c.pieces.ensures, length_placed, few)
+
+pub returns-clause-value : goal.returns-clause-value
+returns-clause-value c =
+    count_from_yields_List c.pieces.result _ c.count.ensures.ran (YieldsList-from_first (λ x. x) pieces_left _ c.pieces.ensures) ∙ length_placed _ _
+
+pub returns-clause-lawful : goal.returns-clause-lawful
+returns-clause-lawful c =
     let splitter = c.args.self.now in
-    let rule = takes_longest splitter.make splitter.limit splitter.some splitter.even in
-    record { value = count_all rule _ _ _ _ c.loop-at-test.false c.loop-at.invariant.1; lawful = lawful rule _ _ }
+    lawful (takes_longest splitter.make splitter.limit splitter.some splitter.even) _ _
+
+pub returns-clause-fewest : goal.returns-clause-fewest
+returns-clause-fewest c =
+    let splitter = c.args.self.now in
+    fewest_here splitter.make splitter.limit splitter.some splitter.even
+
+pub returns-clause-always : goal.returns-clause-always
+returns-clause-always c = fewest
