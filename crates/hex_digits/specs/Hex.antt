@@ -1,5 +1,6 @@
 -- Bytes and addresses in upper-case hexadecimal digits. Assumes nothing.
 use Rattle.std.specs.Prelude.{◌≡◌, ℕ, ◌+◌, ◌-◌, ◌/◌, ◌%◌, cond, List, [], ◌∷◌, ◌++◌, map, codes, nat_lt}
+use Rattle.std.specs.List.{flat_map}
 
 -- 0 to 9, then A to F
 abbrev pub hex_digit : ℕ → ℕ
@@ -10,8 +11,7 @@ unfoldable pub hex_byte : ℕ → List ℕ
 hex_byte b = hex_digit (b / 16) ∷ hex_digit (b % 16) ∷ []
 
 abbrev pub hex_bytes : List ℕ → List ℕ
-hex_bytes [] = []
-hex_bytes (b ∷ bs) = hex_byte b ++ hex_bytes bs
+hex_bytes bs = flat_map hex_byte bs
 
 -- the low three bytes of an address, the highest first
 abbrev pub six_digits : ℕ → List ℕ

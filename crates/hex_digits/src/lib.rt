@@ -6,7 +6,7 @@ ghost use Rattle.hex_digits.specs.Hex.{hex_digit, hex_byte, hex_bytes, six_digit
 
 use std::fmt;
 
-// One digit, of a value below 16.
+// One digit, of a value below 16. `char::from_digit` gives small letters.
 fn digit(value: u8) -> char
     requires { value < 16 }
     ensures { result ≡ hex_digit value }
@@ -27,8 +27,9 @@ pub fn digits(byte: u8) -> (char, char)
     (digit(byte / 16), digit(byte % 16))
 }
 
-// A byte in two digits.
-#[derive(Clone, Copy)]
+// A byte in two digits. `{:02X}` prints them too; by `digits` what is promised of these, that they
+// read back, is promised of what is printed.
+#[derive(Clone, Copy, Debug, PartialEq, Eq)]
 pub struct HexByte(pub u8);
 
 impl fmt::Display for HexByte {
@@ -41,22 +42,20 @@ impl fmt::Display for HexByte {
 }
 
 // The low three bytes of an address in six digits.
-#[derive(Clone, Copy)]
+#[derive(Clone, Copy, Debug, PartialEq, Eq)]
 pub struct Address(pub u32);
 
 impl fmt::Display for Address {
     ghost output = { λ a. Some (six_digits a.0) };
 
     fn fmt<W: fmt::Write>(&self, f: &mut fmt::Formatter<W>) -> fmt::Result {
-        let high = HexByte((self.0 / 65_536 % 256) as u8);
-        let middle = HexByte((self.0 / 256 % 256) as u8);
-        let low = HexByte((self.0 % 256) as u8);
-        write!(f, "{high}{middle}{low}")
+        let [_, high, middle, low] = self.0.to_be_bytes();
+        write!(f, "{}{}{}", HexByte(high), HexByte(middle), HexByte(low))
     }
 }
 
 // Bytes in two digits each.
-#[derive(Clone, Copy)]
+#[derive(Clone, Copy, Debug, PartialEq, Eq)]
 pub struct HexBytes<'a>(pub &'a [u8]);
 
 impl fmt::Display for HexBytes<'_> {
@@ -64,8 +63,7 @@ impl fmt::Display for HexBytes<'_> {
 
     fn fmt<W: fmt::Write>(&self, f: &mut fmt::Formatter<W>) -> fmt::Result {
         for byte in self.0 {
-            let digits = HexByte(*byte);
-            write!(f, "{digits}")?;
+            write!(f, "{}", HexByte(*byte))?;
         }
         Ok(())
     }

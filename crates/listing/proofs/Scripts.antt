@@ -1,17 +1,17 @@
 -- Bytes have one reading as commands, and how it is found, one command after the other. Assumes nothing.
-use Rattle.std.proofs.Common.{◌≡◌, ℕ, ◌+◌, ◌-◌, ◌<◌, ◌≤◌, Bool, true, false, cond, eqb, leb, List, [], ◌∷◌, ◌++◌, length, get_or, drop, Some, None, Ok, Err, Option, Result, sym, refl, ap, ◌∙◌, subst, append_assoc, append-nil, add-zero, add_assoc, arith, length-append, length-drop}
+use Rattle.std.proofs.Common.{◌≡◌, ℕ, ◌+◌, ◌-◌, ◌<◌, Bool, true, false, cond, eqb, leb, List, [], ◌∷◌, ◌++◌, length, get_or, drop, Some, None, Ok, Err, Option, Result, sym, refl, ap, ◌∙◌, subst, append_assoc, append-nil, add-zero, add_assoc, arith, length-append}
 use Rattle.std.proofs.slice.Lists.{all_by_recursion_push}
 use Rattle.std.proofs.lemmas.List.{get_or-append-add}
 use Rattle.std.proofs.lemmas.Bool.{ne_eqb}
 use Rattle.std.specs.List.{AllByRecursion}
 use Rattle.std.specs.declared.alloc.AllocError.{AllocError}
+use Rattle.fault.specs.Refusals.{fault_at}
+use Rattle.fault.specs.declared.Fault.{Fault}
 use Rattle.fault.specs.declared.Refusal.{Refusal}
 use Rattle.fault.specs.declared.Refusal.TheVariants.{UnknownCommand, CommandCutShort}
 use Rattle.script.specs.Openings.{Fields, fields, opening_length, refused as opening-refused, OpeningComesBack}
 use Rattle.script.specs.Commands.{Ask, read, write, fill, latency_type, coverage, register, reset, asked, is_letter, ask, width, unread}
 use Rattle.listing.specs.Scripts.{written, Fits, script, places, Ends, Begins, Reading, seen, Laws, Listed, commands_of, WholeListed, ScriptComesBack}
-use Rattle.listing.specs.declared.Ending.{Ending}
-use Rattle.listing.specs.declared.Ending.TheVariants.{AtEnd, Refused}
 use Rattle.listing.specs.declared.Placed.{Placed}
 use Rattle.listing.proofs.Written.{read_again, Bytes, written_so}
 
@@ -27,9 +27,9 @@ some_written (register k) rest = omega arith
 some_written reset rest = omega arith
 
 -- where a script ends, no command begins
-no_command : (a : Ask) (rest left : List ℕ) (p : ℕ) (e : Ending) → Fits a → Ends p left e → left ≡ written a ++ rest → ⊥
-no_command a rest left p AtEnd fits end is = let long : length left ≡ length (written a ++ rest) = ap length is in let none : length left ≡ 0 = ap length end in omega (arith, some_written a rest)
-no_command a rest left p (Refused r place) fits end is = let clash : Some r ≡ None = sym end.2 ∙ ap unread is ∙ (read_again a rest fits).taken in let no : ◌≡◌ {A = ℕ} 1 0 = cc in omega arith
+no_command : (a : Ask) (rest left : List ℕ) (p : ℕ) (e : Option (Fault ℕ)) → Fits a → Ends p left e → left ≡ written a ++ rest → ⊥
+no_command a rest left p None fits end is = let long : length left ≡ length (written a ++ rest) = ap length is in let none : length left ≡ 0 = ap length end in omega (arith, some_written a rest)
+no_command a rest left p (Some f) fits end is = let clash : Some f.refusal ≡ None = sym end.2 ∙ ap unread is ∙ (read_again a rest fits).taken in let no : ◌≡◌ {A = ℕ} 1 0 = cc in omega arith
 
 -- the commands of a reading are the first of every other reading that has them in front
 record More (asks others : List Ask) (left last : List ℕ) : Type 0 where
@@ -38,7 +38,7 @@ record More (asks others : List Ask) (left last : List ℕ) : Type 0 where
   pub listed : others ≡ asks ++ tail
   pub behind : left ≡ script tail ++ last
 
-prefix : (asks others : List Ask) (left last : List ℕ) (p : ℕ) (e : Ending) → AllByRecursion Fits asks → AllByRecursion Fits others → Ends p last e → script asks ++ left ≡ script others ++ last → More asks others left last
+prefix : (asks others : List Ask) (left last : List ℕ) (p : ℕ) (e : Option (Fault ℕ)) → AllByRecursion Fits asks → AllByRecursion Fits others → Ends p last e → script asks ++ left ≡ script others ++ last → More asks others left last
 prefix [] others left last p e fa fo end is = record { tail = others; fit = fo; listed = refl; behind = is }
 prefix (a ∷ asks) [] left last p e fa fo end is = absurd (no_command a (script asks ++ left) last p e fa.0 end (sym is ∙ append_assoc (written a) (script asks) left))
 prefix (a ∷ asks) (b ∷ others) left last p e fa fo end is =
@@ -50,20 +50,20 @@ prefix (a ∷ asks) (b ∷ others) left last p e fa fo end is =
     let more = prefix asks others left last p e fa.1 fo.1 end rest in
     record { tail = more.tail; fit = more.fit; listed = λ i. same i ∷ more.listed i; behind = more.behind }
 
-same_ends : (p q : ℕ) (l k : List ℕ) (e f : Ending) → p ≡ q → l ≡ k → Ends p l e → Ends q k f → f ≡ e
-same_ends p q l k AtEnd AtEnd at is one two = refl
-same_ends p q l k AtEnd (Refused r place) at is one two = let none : length k ≡ 0 = ap length (sym is ∙ one) in absurd (omega (arith, two.1))
-same_ends p q l k (Refused r place) AtEnd at is one two = let none : length l ≡ 0 = ap length (is ∙ two) in absurd (omega (arith, one.1))
-same_ends p q l k (Refused r place) (Refused s other) at is one two =
-    let both : Some s ≡ Some r = sym two.2 ∙ ap unread (sym is) ∙ one.2 in
-    let which : s ≡ r = cc in
-    λ i. Refused (which i) ((two.0 ∙ sym at ∙ sym one.0) i)
+same_ends : (p q : ℕ) (l k : List ℕ) (e f : Option (Fault ℕ)) → p ≡ q → l ≡ k → Ends p l e → Ends q k f → f ≡ e
+same_ends p q l k None None at is one two = refl
+same_ends p q l k None (Some f) at is one two = let none : length k ≡ 0 = ap length (sym is ∙ one) in absurd (omega (arith, two.1))
+same_ends p q l k (Some f) None at is one two = let none : length l ≡ 0 = ap length (is ∙ two) in absurd (omega (arith, one.1))
+same_ends p q l k (Some f) (Some g) at is one two =
+    let both : Some g.refusal ≡ Some f.refusal = sym two.2 ∙ ap unread (sym is) ∙ one.2 in
+    let which : g.refusal ≡ f.refusal = cc in
+    λ i. Some (fault_at (which i) ((two.0 ∙ sym at ∙ sym one.0) i))
 
-none_more : (tail : List Ask) (last left : List ℕ) (p : ℕ) (e : Ending) → AllByRecursion Fits tail → Ends p left e → left ≡ script tail ++ last → tail ≡ []
+none_more : (tail : List Ask) (last left : List ℕ) (p : ℕ) (e : Option (Fault ℕ)) → AllByRecursion Fits tail → Ends p left e → left ≡ script tail ++ last → tail ≡ []
 none_more [] last left p e fit end is = refl
 none_more (a ∷ tail) last left p e fit end is = absurd (no_command a (script tail ++ last) left p e fit.0 end (is ∙ append_assoc (written a) (script tail) last))
 
-only : (bs : List ℕ) (cs ds : List (ℕ × Ask)) (e f : Ending) → Reading bs cs e → Reading bs ds f → (ds ≡ cs) × (f ≡ e)
+only : (bs : List ℕ) (cs ds : List (ℕ × Ask)) (e f : Option (Fault ℕ)) → Reading bs cs e → Reading bs ds f → (ds ≡ cs) × (f ≡ e)
 only bs cs ds e f one two =
     let more = prefix one.begins.asks two.begins.asks one.left two.left (length (script two.begins.asks)) f one.begins.fit two.begins.fit two.ended (sym one.begins.whole ∙ two.begins.whole) in
     let end = none_more more.tail two.left one.left (length (script one.begins.asks)) e more.fit one.ended more.behind in
@@ -94,18 +94,18 @@ unknown_stays (x ∷ left) more some e =
     let first : eqb (length (x ∷ left ++ more)) 0 ≡ false = ne_eqb (length (x ∷ left ++ more)) 0 (λ n. omega arith) in
     λ i. cond (first i) (Some CommandCutShort) (cond (other i) (cond (leb (width (x ∷ left ++ more)) (length (x ∷ left ++ more))) None (Some CommandCutShort)) (Some UnknownCommand))
 
-stays : (bs more : List ℕ) (cs : List (ℕ × Ask)) (p : ℕ) → Reading bs cs (Refused UnknownCommand p) → Reading (bs ++ more) cs (Refused UnknownCommand p)
+stays : (bs more : List ℕ) (cs : List (ℕ × Ask)) (p : ℕ) → Reading bs cs (Some (fault_at UnknownCommand p)) → Reading (bs ++ more) cs (Some (fault_at UnknownCommand p))
 stays bs more cs p one = record {
   left = one.left ++ more;
   begins = record { asks = one.begins.asks; fit = one.begins.fit; whole = ap (λ l. l ++ more) one.begins.whole ∙ append_assoc (script one.begins.asks) one.left more; placed = one.begins.placed };
   ended = (one.ended.0, (let some = one.ended.1 in omega (arith, length-append one.left more)), unknown_stays one.left more one.ended.1 one.ended.2);
 }
 
-laws : (bs : List ℕ) (cs : List (ℕ × Ask)) (e : Ending) → Reading bs cs e → Laws bs cs e
+laws : (bs : List ℕ) (cs : List (ℕ × Ask)) (e : Option (Fault ℕ)) → Reading bs cs e → Laws bs cs e
 laws bs cs e one = record {
   comes_back = λ asks fit is.
-      let other : Reading bs (places 0 asks) AtEnd = record { left = []; begins = record { asks = asks; fit = fit; whole = is ∙ sym (append-nil (script asks)); placed = refl }; ended = refl } in
-      let same = only bs cs (places 0 asks) e AtEnd one other in
+      let other : Reading bs (places 0 asks) None = record { left = []; begins = record { asks = asks; fit = fit; whole = is ∙ sym (append-nil (script asks)); placed = refl }; ended = refl } in
+      let same = only bs cs (places 0 asks) e None one other in
       (sym same.0, sym same.1);
   only = λ ds f two. only bs cs ds e f one two;
   longest = λ ds left two.
@@ -154,14 +154,11 @@ shorter bs rest after ps b so taken behind =
     let some : 0 < length (written (ask rest)) = subst (λ l. 0 < length l) (append-nil (written (ask rest))) (some_written (ask rest) []) in
     omega arith
 
-pub rest_within : (bs rest : List ℕ) (ps : List Placed) → Begins bs (seen ps) rest → length rest ≤ length bs
-rest_within bs rest ps so = let long : length bs ≡ length (script so.asks) + length rest = ap length so.whole ∙ length-append (script so.asks) rest in omega arith
-
-at_end : (bs rest : List ℕ) (ps : List Placed) → Begins bs (seen ps) rest → length rest ≡ 0 → Reading bs (seen ps) AtEnd
+at_end : (bs rest : List ℕ) (ps : List Placed) → Begins bs (seen ps) rest → length rest ≡ 0 → Reading bs (seen ps) None
 at_end bs [] ps so none = record { left = []; begins = so; ended = refl }
 at_end bs (x ∷ rest) ps so none = absurd (omega arith)
 
-stopped : (bs rest : List ℕ) (ps : List Placed) (r : Refusal) (p : ℕ) → Begins bs (seen ps) rest → 0 < length rest → unread rest ≡ Some r → p ≡ length bs - length rest → Reading bs (seen ps) (Refused r p)
+stopped : (bs rest : List ℕ) (ps : List Placed) (r : Refusal) (p : ℕ) → Begins bs (seen ps) rest → 0 < length rest → unread rest ≡ Some r → p ≡ length bs - length rest → Reading bs (seen ps) (Some (fault_at r p))
 stopped bs rest ps r p so some refused at =
     let long : length bs ≡ length (script so.asks) + length rest = ap length so.whole ∙ length-append (script so.asks) rest in
     record { left = rest; begins = so; ended = (omega arith, some, refused) }
@@ -173,9 +170,6 @@ pub record Filling (bs : List ℕ) (old new : List Placed) (rest : List ℕ) : T
   pub behind : new ≡ old ++ added
   pub begins : Begins bs (seen added) rest
 
-pub start : (bs : List ℕ) (old : List Placed) → Filling bs old old bs
-start bs old = record { added = []; behind = sym (append-nil old); begins = record { asks = []; fit = tt; whole = refl; placed = refl } }
-
 pub next : (bs rest after : List ℕ) (old new : List Placed) (p : Placed) → Bytes bs → Filling bs old new rest → p.place ≡ length bs - length rest → unread rest ≡ None → asked p.command ≡ ask rest → after ≡ drop (width rest) rest → Filling bs old (new ++ p ∷ []) after
 next bs rest after old new p b so at taken is behind = record {
   added = so.added ++ p ∷ [];
@@ -183,29 +177,26 @@ next bs rest after old new p b so at taken is behind = record {
   begins = one_more bs rest after so.added p b so.begins at taken is behind;
 }
 
-pub done : (bs rest : List ℕ) (old new : List Placed) → Filling bs old new rest → length rest ≡ 0 → Listed bs old new (Ok AtEnd)
+pub done : (bs rest : List ℕ) (old new : List Placed) → Filling bs old new rest → length rest ≡ 0 → Listed bs old new (Ok None)
 done bs rest old new so none =
     let read = at_end bs rest so.added so.begins none in
     record { added = so.added; behind = so.behind; told = (read, laws _ _ _ read) }
 
-pub refused : (bs rest : List ℕ) (old new : List Placed) (r : Refusal) (p : ℕ) → Filling bs old new rest → 0 < length rest → unread rest ≡ Some r → p ≡ length bs - length rest → Listed bs old new (Ok (Refused r p))
-refused bs rest old new r p so some unread at =
+pub refused : (bs rest : List ℕ) (old new : List Placed) (r : Refusal) (p : ℕ) (f : Fault ℕ) → Filling bs old new rest → 0 < length rest → unread rest ≡ Some r → p ≡ length bs - length rest → f ≡ fault_at r p → Listed bs old new (Ok (Some f))
+refused bs rest old new r p f so some unread at is =
     let read = stopped bs rest so.added r p so.begins some unread at in
-    record { added = so.added; behind = so.behind; told = (read, laws _ _ _ read) }
+    subst (λ g. Listed bs old new (Ok (Some g))) (sym is) (record { added = so.added; behind = so.behind; told = (read, laws _ _ _ read) })
 
 -- ---- a whole script
 
-pub not_refused : (bs commands : List ℕ) (f : Fields) (o : Option Refusal) (old new : List Placed) (r : Result Ending AllocError) → o ≡ None → f ≡ fields bs → commands ≡ drop (opening_length f.stack) bs → Listed commands old new r → WholeListed o bs old new r
+pub not_refused : (bs commands : List ℕ) (f : Fields) (o : Option Refusal) (old new : List Placed) (r : Result (Option (Fault ℕ)) AllocError) → o ≡ None → f ≡ fields bs → commands ≡ drop (opening_length f.stack) bs → Listed commands old new r → WholeListed o bs old new r
 not_refused bs commands f o old new r none is behind listed =
     subst (λ p. WholeListed p bs old new r) (sym none) (subst (λ l. Listed l old new r) (behind ∙ ap (λ g. drop (opening_length g.stack) bs) is) listed)
 
-pub no_longer : (bs commands : List ℕ) (n : ℕ) → commands ≡ drop n bs → length commands ≤ length bs
-no_longer bs commands n is = let long : length commands ≡ length bs - n = ap length is ∙ length-drop n bs in omega arith
+pub opening_ends : (e : Refusal) (bs : List ℕ) (old : List Placed) (f : Fault ℕ) → opening-refused bs ≡ Some e → f ≡ fault_at e 0 → WholeListed (opening-refused bs) bs old old (Ok (Some f))
+opening_ends e bs old f is at = subst (λ p. WholeListed p bs old old (Ok (Some f))) (sym is) (ap (λ g. Ok (Some g)) at, refl)
 
-pub opening_ends : (e : Refusal) (bs : List ℕ) (old : List Placed) → opening-refused bs ≡ Some e → WholeListed (opening-refused bs) bs old old (Ok (Refused e 0))
-opening_ends e bs old is = subst (λ p. WholeListed p bs old old (Ok (Refused e 0))) (sym is) (refl, refl)
-
-pub script_back : (o : Option Refusal) (bs : List ℕ) (old new : List Placed) (r : Result Ending AllocError) → opening-refused bs ≡ o → WholeListed o bs old new r → OpeningComesBack bs → ScriptComesBack bs old new r
+pub script_back : (o : Option Refusal) (bs : List ℕ) (old new : List Placed) (r : Result (Option (Fault ℕ)) AllocError) → opening-refused bs ≡ o → WholeListed o bs old new r → OpeningComesBack bs → ScriptComesBack bs old new r
 script_back (Some e) bs old new r is whole back f asks fits fit clock few bytes =
     let clash : Some e ≡ None = sym is ∙ (back f (script asks) fits few bytes).0 ∙ clock in
     let no : ◌≡◌ {A = ℕ} 1 0 = cc in

@@ -2,14 +2,14 @@
 use Rattle.std.specs.Prelude.{◌≡◌, ℕ, ◌+◌, ◌/◌, ◌%◌, ◌<◌, ◌≤◌, List, [], ◌∷◌, ◌++◌, length, drop, IfOk, Some, None, Ok, Option, Result, MatchResult}
 use Rattle.std.specs.List.{flat_map, AllByRecursion}
 use Rattle.std.specs.declared.alloc.AllocError.{AllocError}
+use Rattle.fault.specs.Refusals.{fault_at}
+use Rattle.fault.specs.declared.Fault.{Fault}
 use Rattle.fault.specs.declared.Refusal.{Refusal}
 use Rattle.fault.specs.declared.Refusal.TheVariants.{UnknownCommand}
 use Rattle.clock.specs.Made as clock
 use Rattle.mask.specs.Masks as mask
 use Rattle.script.specs.Openings.{Fields, fields, opening_length, two_bytes, written_opening, OpeningFits}
 use Rattle.script.specs.Commands.{Ask, read, write, fill, latency_type, coverage, register, reset, asked, unread}
-use Rattle.listing.specs.declared.Ending.{Ending}
-use Rattle.listing.specs.declared.Ending.TheVariants.{AtEnd, Refused}
 use Rattle.listing.specs.declared.Placed.{Placed}
 
 -- a number in three bytes
@@ -46,9 +46,9 @@ places p [] = []
 places p (a ∷ asks) = (p, a) ∷ places (p + length (written a)) asks
 
 -- how a script ends at place p, with these bytes left: none, or a command that is refused
-abbrev pub Ends : ℕ → List ℕ → Ending → Type 0
-Ends p left AtEnd = left ≡ []
-Ends p left (Refused e place) = (place ≡ p) × (0 < length left) × (unread left ≡ Some e)
+abbrev pub Ends : ℕ → List ℕ → Option (Fault ℕ) → Type 0
+Ends p left None = left ≡ []
+Ends p left (Some f) = (f.place ≡ p) × (0 < length left) × (unread left ≡ Some f.refusal)
 
 -- the bytes begin with these commands, one behind the other, each with its place
 pub record Begins (bs : List ℕ) (cs : List (ℕ × Ask)) (left : List ℕ) : Type 0 where
@@ -58,7 +58,7 @@ pub record Begins (bs : List ℕ) (cs : List (ℕ × Ask)) (left : List ℕ) : T
   pub placed : cs ≡ places 0 asks
 
 -- and then the script ends
-pub record Reading (bs : List ℕ) (cs : List (ℕ × Ask)) (e : Ending) : Type 0 where
+pub record Reading (bs : List ℕ) (cs : List (ℕ × Ask)) (e : Option (Fault ℕ)) : Type 0 where
   pub left : List ℕ
   pub begins : Begins bs cs left
   pub ended : Ends (length (script begins.asks)) left e
@@ -71,12 +71,12 @@ seen (p ∷ ps) = (p.place, asked p.command) ∷ seen ps
 -- ---- laws
 
 -- a list of commands that is written as bytes comes back with its places
-abbrev pub ComesBack : List ℕ → List (ℕ × Ask) → Ending → Type 0
-ComesBack bs cs e = (asks : List Ask) → AllByRecursion Fits asks → bs ≡ script asks → (cs ≡ places 0 asks) × (e ≡ AtEnd)
+abbrev pub ComesBack : List ℕ → List (ℕ × Ask) → Option (Fault ℕ) → Type 0
+ComesBack bs cs e = (asks : List Ask) → AllByRecursion Fits asks → bs ≡ script asks → (cs ≡ places 0 asks) × (e ≡ None)
 
 -- bytes have one reading
-abbrev pub Only : List ℕ → List (ℕ × Ask) → Ending → Type 0
-Only bs cs e = (ds : List (ℕ × Ask)) (f : Ending) → Reading bs ds f → (ds ≡ cs) × (f ≡ e)
+abbrev pub Only : List ℕ → List (ℕ × Ask) → Option (Fault ℕ) → Type 0
+Only bs cs e = (ds : List (ℕ × Ask)) (f : Option (Fault ℕ)) → Reading bs ds f → (ds ≡ cs) × (f ≡ e)
 
 -- nothing more can be read: commands that the bytes begin with are the first of those that were read
 abbrev pub Longest : List ℕ → List (ℕ × Ask) → Type 0
@@ -84,13 +84,13 @@ Longest bs cs = (ds : List (ℕ × Ask)) (left : List ℕ) → Begins bs ds left
 
 -- what follows the bytes changes nothing of the commands in them
 abbrev pub LooksNoFurther : List ℕ → List (ℕ × Ask) → Type 0
-LooksNoFurther bs cs = (more : List ℕ) (ds : List (ℕ × Ask)) (f : Ending) → Reading (bs ++ more) ds f → (es : List (ℕ × Ask)) × (ds ≡ cs ++ es)
+LooksNoFurther bs cs = (more : List ℕ) (ds : List (ℕ × Ask)) (f : Option (Fault ℕ)) → Reading (bs ++ more) ds f → (es : List (ℕ × Ask)) × (ds ≡ cs ++ es)
 
 -- nor, where they end by 4, anything at all
-abbrev pub Stays : List ℕ → List (ℕ × Ask) → Ending → Type 0
-Stays bs cs e = (p : ℕ) (more : List ℕ) → e ≡ Refused UnknownCommand p → Reading (bs ++ more) cs e
+abbrev pub Stays : List ℕ → List (ℕ × Ask) → Option (Fault ℕ) → Type 0
+Stays bs cs e = (p : ℕ) (more : List ℕ) → e ≡ Some (fault_at UnknownCommand p) → Reading (bs ++ more) cs e
 
-pub record Laws (bs : List ℕ) (cs : List (ℕ × Ask)) (e : Ending) : Type 0 where
+pub record Laws (bs : List ℕ) (cs : List (ℕ × Ask)) (e : Option (Fault ℕ)) : Type 0 where
   pub comes_back : ComesBack bs cs e
   pub only : Only bs cs e
   pub longest : Longest bs cs
@@ -100,7 +100,7 @@ pub record Laws (bs : List ℕ) (cs : List (ℕ × Ask)) (e : Ending) : Type 0 w
 -- ---- what is listed
 
 -- the commands are put behind those that were listed already; where memory is wanting, only the first of them
-pub record Listed (bs : List ℕ) (old new : List Placed) (r : Result Ending AllocError) : Type 0 where
+pub record Listed (bs : List ℕ) (old new : List Placed) (r : Result (Option (Fault ℕ)) AllocError) : Type 0 where
   pub added : List Placed
   pub behind : new ≡ old ++ added
   pub told : MatchResult r (λ e. Reading bs (seen added) e × Laws bs (seen added) e) (λ x. (left : List ℕ) × Begins bs (seen added) left)
@@ -110,12 +110,12 @@ abbrev pub commands_of : List ℕ → List ℕ
 commands_of bs = drop (opening_length (fields bs).stack) bs
 
 -- a whole script: an opening that is refused ends it at place 0, and lists nothing
-abbrev pub WholeListed : Option Refusal → List ℕ → List Placed → List Placed → Result Ending AllocError → Type 0
-WholeListed (Some e) bs old new r = (r ≡ Ok (Refused e 0)) × (new ≡ old)
+abbrev pub WholeListed : Option Refusal → List ℕ → List Placed → List Placed → Result (Option (Fault ℕ)) AllocError → Type 0
+WholeListed (Some e) bs old new r = (r ≡ Ok (Some (fault_at e 0))) × (new ≡ old)
 WholeListed None bs old new r = Listed (commands_of bs) old new r
 
 -- an opening and commands that are written one behind the other come back
-abbrev pub ScriptComesBack : List ℕ → List Placed → List Placed → Result Ending AllocError → Type 0
+abbrev pub ScriptComesBack : List ℕ → List Placed → List Placed → Result (Option (Fault ℕ)) AllocError → Type 0
 ScriptComesBack bs old new r =
     (f : Fields) (asks : List Ask) → OpeningFits f → AllByRecursion Fits asks → clock.refused f.khz f.range ≡ None → length bs ≤ 32768 → bs ≡ written_opening f ++ script asks
-    → IfOk r (λ e. (e ≡ AtEnd) × ((added : List Placed) × (new ≡ old ++ added) × (seen added ≡ places 0 asks)))
+    → IfOk r (λ e. (e ≡ None) × ((added : List Placed) × (new ≡ old ++ added) × (seen added ≡ places 0 asks)))

@@ -8,11 +8,11 @@ use std::io;
 use std::io::{BufWriter, Read, Write};
 
 fn main(rt: HostRuntime) -> io::Result<()> {
-    // one byte more than a script may have, so that one that is too long is seen to be
+    // one byte more than a script may have, so that one that is too long is seen to be (two lines, as in
+    // `script_list`)
     let mut input = Vec::new(rt.alloc());
     rt.stdin().take(LONGEST as u64 + 1).read_to_end(&mut input)?;
-    let line = first_line(&input);
     let mut out = BufWriter::new(rt.alloc(), rt.stdout())?;
-    writeln!(out, "{line}")?;
+    writeln!(out, "{}", first_line(&input))?;
     out.flush()
 }

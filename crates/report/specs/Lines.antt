@@ -4,15 +4,10 @@ use Rattle.clock.specs.Made.{period}
 use Rattle.fault.specs.Refusals.{account}
 use Rattle.fault.specs.declared.Account.{Account}
 use Rattle.fault.specs.declared.Refusal.{Refusal}
+use Rattle.frame.specs.Letters.{letter}
 use Rattle.frame.specs.declared.make.Make.{Make}
-use Rattle.frame.specs.declared.make.Make.TheVariants as make
 use Rattle.script.specs.Openings.{refused, Fields, fields}
 use Rattle.script.specs.declared.opening.Opening.{Opening}
-
--- A or S
-abbrev pub letter : Make → ℕ
-letter make.A = 65
-letter make.S = 83
 
 -- chip, pages, clock in kHz, period in picoseconds: A 2 133000 7519
 abbrev pub heading_of : Make → ℕ → ℕ → List ℕ
@@ -27,10 +22,13 @@ abbrev pub good_part : Option ℕ → List ℕ
 good_part None = []
 good_part (Some k) = codes " k=" ++ decimal k
 
--- the number in two digits, the place, the good bytes: ! 10 @21, or ! 19 @30 k=1024
+-- the number in two digits, the place as it is written, the good bytes: ! 10 @21, or ! 19 @30 k=1024
+abbrev pub refusal_at : Account → List ℕ → List ℕ
+refusal_at a place =
+    codes "! " ++ (decimal (a.number / 10) ++ (decimal (a.number % 10) ++ (codes " @" ++ (place ++ good_part a.good))))
+
 abbrev pub refusal_line : Account → ℕ → List ℕ
-refusal_line a place =
-    codes "! " ++ (decimal (a.number / 10) ++ (decimal (a.number % 10) ++ (codes " @" ++ (decimal place ++ good_part a.good))))
+refusal_line a place = refusal_at a (decimal place)
 
 -- what a script's report begins with: the refusal of its opening, at place 0, or the first line
 abbrev pub begins : Option Refusal → Fields → List ℕ

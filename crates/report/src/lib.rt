@@ -5,6 +5,6 @@ mod first;
 mod line;
 mod refused;
 
-pub use first::{FirstLine, Heading, first_line};
+pub use first::{FirstLine, first_line};
 pub use line::{Cost, Line};
-pub use refused::{Refused, RefusedCommand};
+pub use refused::Refused;

@@ -1,14 +1,15 @@
 // The lines of the report after the first, one for each command.
 ghost use Rattle.std.specs.Prelude.{Some};
-ghost use Rattle.report.specs.Commands.{cost_part, data_part, write_part, line};
+ghost use Rattle.report.specs.Commands.{cost_part, data_part, line};
 
-use crate::refused::RefusedCommand;
+use crate::refused::Refused;
+use fault::Fault;
 use hex_digits::{Address, HexByte, HexBytes};
 use mask::masked_bytes;
 use std::fmt;
 
 // What a command took: its frames, and the sum of their low clocks.
-#[derive(Clone, Copy)]
+#[derive(Clone, Copy, Debug, PartialEq, Eq)]
 pub struct Cost {
     pub frames: u64,
     pub clocks: u64,
@@ -19,14 +20,12 @@ impl fmt::Display for Cost {
     ghost output = { λ c. Some (cost_part c) };
 
     fn fmt<W: fmt::Write>(&self, f: &mut fmt::Formatter<W>) -> fmt::Result {
-        let frames = self.frames;
-        let clocks = self.clocks;
-        write!(f, " f={frames} c={clocks}")
+        write!(f, " f={} c={}", self.frames, self.clocks)
     }
 }
 
-// The bytes from an address on: the address, how many, and the bytes.
-#[derive(Clone, Copy)]
+// The bytes from an address on, of a read or a fill: the address, how many, and the bytes.
+#[derive(Clone, Copy, Debug, PartialEq, Eq)]
 struct Bytes<'a> {
     address: u32,
     data: &'a [u8],
@@ -36,35 +35,20 @@ impl fmt::Display for Bytes<'_> {
     ghost output = { λ b. Some (data_part b.address b.«data».now) };
 
     fn fmt<W: fmt::Write>(&self, f: &mut fmt::Formatter<W>) -> fmt::Result {
-        let address = Address(self.address);
-        let length = self.data.len();
-        let digits = HexBytes(self.data);
-        write!(f, "{address} {length} {digits}")
+        let data = self.data;
+        write!(
+            f,
+            "{} {} {}",
+            Address(self.address),
+            data.len(),
+            HexBytes(data)
+        )
     }
 }
 
-// A write: its address, its length, and how many of its bytes were written.
-#[derive(Clone, Copy)]
-struct Masked<'a> {
-    address: u32,
-    length: u16,
-    mask: &'a [u8],
-}
-
-impl fmt::Display for Masked<'_> {
-    ghost output = { λ m. Some (write_part m.address m.length m.mask.now) };
-
-    fn fmt<W: fmt::Write>(&self, f: &mut fmt::Formatter<W>) -> fmt::Result {
-        let address = Address(self.address);
-        let length = self.length;
-        // a set bit is a byte that is not written
-        let written = u64::from(length).saturating_sub(masked_bytes(self.mask));
-        write!(f, "{address} {length} w={written}")
-    }
-}
-
-// What a command did and what it took, or its refusal.
-#[derive(Clone, Copy)]
+// What a command did and what it took, or its refusal. Types, coverages and registers are the bytes of
+// the script, which a line repeats as numbers.
+#[derive(Clone, Copy, Debug, PartialEq, Eq)]
 pub enum Line<'a> {
     Read {
         address: u32,
@@ -98,7 +82,8 @@ pub enum Line<'a> {
     Reset {
         cost: Cost,
     },
-    Refused(RefusedCommand),
+    // the place counts from behind the opening and its key
+    Refused(Fault<usize>),
 }
 
 impl fmt::Display for Line<'_> {
@@ -110,39 +95,29 @@ impl fmt::Display for Line<'_> {
                 address,
                 data,
                 cost,
-            } => {
-                let bytes = Bytes { address, data };
-                write!(f, "R {bytes}{cost}")
-            }
+            } => write!(f, "R {}{cost}", Bytes { address, data }),
             Line::Write {
                 address,
                 length,
                 mask,
                 cost,
             } => {
-                let masked = Masked {
-                    address,
-                    length,
-                    mask,
-                };
-                write!(f, "W {masked}{cost}")
+                // a set bit is a byte that is not written
+                let written = u64::from(length).saturating_sub(masked_bytes(mask));
+                write!(f, "W {} {length} w={written}{cost}", Address(address))
             }
             Line::Fill {
                 address,
                 data,
                 cost,
-            } => {
-                let bytes = Bytes { address, data };
-                write!(f, "F {bytes}{cost}")
-            }
+            } => write!(f, "F {}{cost}", Bytes { address, data }),
             Line::LatencyType { value, cost } => write!(f, "L {value}{cost}"),
             Line::Coverage { code, cost } => write!(f, "P {code}{cost}"),
             Line::Register { number, byte, cost } => {
-                let byte = HexByte(byte);
-                write!(f, "Q {number} {byte}{cost}")
+                write!(f, "Q {number} {}{cost}", HexByte(byte))
             }
             Line::Reset { cost } => write!(f, "Z{cost}"),
-            Line::Refused(refused) => write!(f, "{refused}"),
+            Line::Refused(fault) => write!(f, "{}", Refused(fault)),
         }
     }
 }

@@ -1,8 +1,7 @@
 // Lines at the ends of each field. An address above six digits shows its low three bytes.
-use crate::put::{coverage, fill, latency_type, read, register, reset, write};
-use report::Cost;
-use std::io;
+use report::{Cost, Line};
 use std::io::Write;
+use std::{array, io};
 
 const ADDRESSES: [u32; 8] = [
     0,
@@ -25,79 +24,106 @@ const DATA: [u8; 16] = [
 ];
 
 // Counts up from 0, and begins again after 255.
-fn count_up(data: &mut [u8]) {
-    let mut next = 0u8;
-    for byte in data.iter_mut() {
-        *byte = next;
-        next = next.wrapping_add(1);
-    }
+fn count_up<const N: usize>() -> [u8; N] {
+    array::from_fn(|i| (i % 256) as u8)
+}
+
+fn read<W: Write>(out: &mut W, address: u32, data: &[u8]) -> io::Result<()> {
+    let cost = ONE;
+    let line = Line::Read {
+        address,
+        data,
+        cost,
+    };
+    writeln!(out, "{line}")
 }
 
 pub fn reads<W: Write>(out: &mut W) -> io::Result<()> {
     for address in ADDRESSES {
-        read(out, address, &DATA[0..3], ONE)?;
+        read(out, address, &DATA[..3])?;
     }
     for byte in DATA {
-        read(out, 0, &[byte], ONE)?;
+        read(out, 0, &[byte])?;
     }
-    let mut all = [0; 4_096];
-    count_up(&mut all);
-    for length in [0, 1, 3, 16, 256, 4_095, 4_096] {
-        if length <= all.len() {
-            read(out, 0, &all[0..length], ONE)?;
-        }
+    let all = count_up::<4_096>();
+    for data in [
+        &all[..0],
+        &all[..1],
+        &all[..3],
+        &all[..16],
+        &all[..256],
+        &all[..4_095],
+        &all[..],
+    ] {
+        read(out, 0, data)?;
     }
     Ok(())
+}
+
+fn write<W: Write>(out: &mut W, address: u32, length: u16, mask: &[u8]) -> io::Result<()> {
+    let cost = ONE;
+    let line = Line::Write {
+        address,
+        length,
+        mask,
+        cost,
+    };
+    writeln!(out, "{line}")
 }
 
 // Masks with no bit set, with all set, with some, and with more than the length.
 pub fn writes<W: Write>(out: &mut W) -> io::Result<()> {
     for address in ADDRESSES {
-        write(out, address, 1, &[0], ONE)?;
+        write(out, address, 1, &[0])?;
     }
     for length in [0, 1, 2, 3, 4, 5, 6, 7, 8] {
         for mask in [0x00, 0x01, 0x11, 0xff] {
-            write(out, 0, length, &[mask], ONE)?;
+            write(out, 0, length, &[mask])?;
         }
     }
-    write(out, 0, 0, &[], ONE)?;
-    write(out, 0, u16::MAX, &[], ONE)?;
-    write(out, 0, 16, &[0x55, 0xaa], ONE)?;
-    write(out, 0, 16, &[0xff, 0x7f], ONE)?;
-    write(out, 0, 16, &[0xff, 0xff], ONE)?;
+    write(out, 0, 0, &[])?;
+    write(out, 0, u16::MAX, &[])?;
+    write(out, 0, 16, &[0x55, 0xaa])?;
+    write(out, 0, 16, &[0xff, 0x7f])?;
+    write(out, 0, 16, &[0xff, 0xff])?;
     for mask in [0x00, 0x80, 0xff] {
-        write(out, 0, 4_096, &[mask; 512], ONE)?;
+        write(out, 0, 4_096, &[mask; 512])?;
     }
     Ok(())
 }
 
 pub fn fills<W: Write>(out: &mut W) -> io::Result<()> {
-    let mut line = [0; 64];
-    count_up(&mut line);
+    let line = count_up::<64>();
     for address in ADDRESSES {
-        for length in [16, 32, 64] {
-            if length <= line.len() {
-                fill(out, address, &line[0..length], ONE)?;
-            }
+        for data in [&line[..16], &line[..32], &line[..]] {
+            let cost = ONE;
+            let line = Line::Fill {
+                address,
+                data,
+                cost,
+            };
+            writeln!(out, "{line}")?;
         }
     }
     Ok(())
 }
 
 pub fn settings<W: Write>(out: &mut W) -> io::Result<()> {
+    let cost = ONE;
     for value in [0, 1, u8::MAX] {
-        latency_type(out, value, ONE)?;
+        writeln!(out, "{}", Line::LatencyType { value, cost })?;
     }
     for code in [0, 1, 2, 3, 4, 5, 6, 7, u8::MAX] {
-        coverage(out, code, ONE)?;
+        writeln!(out, "{}", Line::Coverage { code, cost })?;
     }
     Ok(())
 }
 
 pub fn registers<W: Write>(out: &mut W) -> io::Result<()> {
+    let cost = ONE;
     for number in [0, 1, 2, 3, 4, 8, u8::MAX] {
         for byte in [0x00, 0x09, 0x0a, 0x90, 0xff] {
-            register(out, number, byte, ONE)?;
+            writeln!(out, "{}", Line::Register { number, byte, cost })?;
         }
     }
     Ok(())
@@ -107,8 +133,8 @@ pub fn costs<W: Write>(out: &mut W) -> io::Result<()> {
     for frames in [0, 1, 10, u64::MAX] {
         for clocks in [0, 1, 10, u64::MAX] {
             let cost = Cost { frames, clocks };
-            reset(out, cost)?;
-            latency_type(out, 1, cost)?;
+            writeln!(out, "{}", Line::Reset { cost })?;
+            writeln!(out, "{}", Line::LatencyType { value: 1, cost })?;
         }
     }
     Ok(())

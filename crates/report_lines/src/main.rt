@@ -2,7 +2,6 @@
 #![tactic(auto)]
 
 mod fields;
-mod put;
 mod quoted;
 mod refusals;
 

@@ -1,7 +1,6 @@
 // The lines that the page on reports quotes.
-use crate::put::{coverage, fill, latency_type, read, refused, register, reset, write};
 use fault::Refusal;
-use report::Cost;
+use report::{Cost, Line};
 use std::io;
 use std::io::Write;
 
@@ -10,14 +9,42 @@ fn cost(frames: u64, clocks: u64) -> Cost {
 }
 
 pub fn lines<W: Write>(out: &mut W) -> io::Result<()> {
-    let line = [0, 0, 0, 0, 0, 0, 0, 0, 0, 0, 0, 0, 0, 0x0a, 0x00, 0x0c];
-    read(out, 3, &[0x0a, 0x00, 0x0c], cost(1, 10))?;
-    write(out, 3, 3, &[0b010], cost(1, 10))?;
-    fill(out, 6, &line, cost(2, 26))?;
-    latency_type(out, 1, cost(1, 5))?;
-    coverage(out, 0, cost(1, 5))?;
-    register(out, 0, 9, cost(1, 9))?;
-    reset(out, cost(2, 10))?;
-    refused(out, Refusal::PastSize, 21)?;
-    refused(out, Refusal::NoStrobe(1_024), 30)
+    let lines = [
+        Line::Read {
+            address: 3,
+            data: &[0x0a, 0x00, 0x0c],
+            cost: cost(1, 10),
+        },
+        Line::Write {
+            address: 3,
+            length: 3,
+            mask: &[0b010],
+            cost: cost(1, 10),
+        },
+        Line::Fill {
+            address: 6,
+            data: &[0, 0, 0, 0, 0, 0, 0, 0, 0, 0, 0, 0, 0, 0x0a, 0x00, 0x0c],
+            cost: cost(2, 26),
+        },
+        Line::LatencyType {
+            value: 1,
+            cost: cost(1, 5),
+        },
+        Line::Coverage {
+            code: 0,
+            cost: cost(1, 5),
+        },
+        Line::Register {
+            number: 0,
+            byte: 9,
+            cost: cost(1, 9),
+        },
+        Line::Reset { cost: cost(2, 10) },
+        Line::Refused(Refusal::PastSize.at(21)),
+        Line::Refused(Refusal::NoStrobe(1_024).at(30)),
+    ];
+    for line in lines {
+        writeln!(out, "{line}")?;
+    }
+    Ok(())
 }

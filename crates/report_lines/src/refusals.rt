@@ -1,6 +1,6 @@
 // Each refusal, at the first place, at the last one of the longest script, and at the largest number.
-use crate::put::refused;
 use fault::Refusal;
+use report::Line;
 use std::io;
 use std::io::Write;
 
@@ -33,7 +33,7 @@ const REFUSALS: [Refusal; 23] = [
 pub fn lines<W: Write>(out: &mut W) -> io::Result<()> {
     for refusal in REFUSALS {
         for place in [0, 32_767, usize::MAX] {
-            refused(out, refusal, place)?;
+            writeln!(out, "{}", Line::Refused(refusal.at(place)))?;
         }
     }
     Ok(())

@@ -2,12 +2,14 @@
 use Rattle.std.proofs.Common.{◌≡◌, ℕ, ◌+◌, ◌*◌, ◌/◌, ◌%◌, ◌≤◌, true, List, [], ◌∷◌, ◌++◌, length, drop, refl, ap, ◌∙◌, subst, arith, length-append}
 use Rattle.std.proofs.lemmas.List.{take_at, drop_at}
 use Rattle.std.proofs.lemmas.Bool.{le-leb, and_from, cond-true}
+use Rattle.clock.specs.Letters.{letter as range_byte}
 use Rattle.clock.specs.Made as clock
 use Rattle.clock.specs.declared.range.Range.{Range}
 use Rattle.clock.specs.declared.range.Range.TheVariants.{Normal, Extended}
+use Rattle.frame.specs.Letters.{letter as make_byte}
 use Rattle.frame.specs.declared.make.Make.{Make}
 use Rattle.frame.specs.declared.make.Make.TheVariants as make
-use Rattle.script.specs.Openings.{is_make, make_of, is_range, range_of, is_stack, stack_of, opening_length, well_formed, Fields, fields, make_byte, range_byte, stack_bytes, written_opening, StackFits, OpeningFits, OpeningComesBack}
+use Rattle.script.specs.Openings.{is_make, make_of, is_range, range_of, is_stack, stack_of, opening_length, well_formed, Fields, fields, stack_bytes, written_opening, StackFits, OpeningFits, OpeningComesBack}
 use Rattle.script.specs.declared.opening.Stack.{Stack}
 use Rattle.script.specs.declared.opening.Stack.TheVariants.{Plain, Keyed}
 
@@ -19,19 +21,19 @@ of_four : (n : ℕ) → n / 16777216 * 16777216 + n / 65536 % 256 * 65536 + n / 
 of_four n = omega arith
 
 -- letters
-is_make_byte : (m : Make) → is_make (make_byte m) ≡ true
+pub is_make_byte : (m : Make) → is_make (make_byte m) ≡ true
 is_make_byte make.A = refl
 is_make_byte make.S = refl
 
-make_back : (m : Make) → make_of (make_byte m) ≡ m
+pub make_back : (m : Make) → make_of (make_byte m) ≡ m
 make_back make.A = refl
 make_back make.S = refl
 
-is_range_byte : (r : Range) → is_range (range_byte r) ≡ true
+pub is_range_byte : (r : Range) → is_range (range_byte r) ≡ true
 is_range_byte Normal = refl
 is_range_byte Extended = refl
 
-range_back : (r : Range) → range_of (range_byte r) ≡ r
+pub range_back : (r : Range) → range_of (range_byte r) ≡ r
 range_back Normal = refl
 range_back Extended = refl
 

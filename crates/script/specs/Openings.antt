@@ -1,10 +1,12 @@
 -- The opening of a script, byte by byte. Numbers go high byte first. Assumes nothing.
 use Rattle.std.specs.Prelude.{◌≡◌, ℕ, ◌+◌, ◌*◌, ◌/◌, ◌%◌, ◌≤◌, Bool, cond, ◌&&◌, ◌||◌, List, [], ◌∷◌, ◌++◌, length, take, drop, Some, Option, ◌==◌, nat_le, slice_index}
+use Rattle.clock.specs.Letters.{letter as range_byte}
 use Rattle.clock.specs.Made as clock
 use Rattle.clock.specs.declared.range.Range.{Range}
 use Rattle.clock.specs.declared.range.Range.TheVariants.{Normal, Extended}
 use Rattle.fault.specs.declared.Refusal.{Refusal}
 use Rattle.fault.specs.declared.Refusal.TheVariants.{BadSetup}
+use Rattle.frame.specs.Letters.{letter as make_byte}
 use Rattle.frame.specs.declared.make.Make.{Make}
 use Rattle.frame.specs.declared.make.Make.TheVariants as make
 use Rattle.script.specs.declared.opening.Opening.{Opening}
@@ -100,14 +102,6 @@ two_bytes n = n / 256 ∷ n % 256 ∷ []
 
 abbrev pub four_bytes : ℕ → List ℕ
 four_bytes n = n / 16777216 ∷ n / 65536 % 256 ∷ n / 256 % 256 ∷ n % 256 ∷ []
-
-abbrev pub make_byte : Make → ℕ
-make_byte make.A = 65
-make_byte make.S = 83
-
-abbrev pub range_byte : Range → ℕ
-range_byte Normal = 78
-range_byte Extended = 88
 
 abbrev pub stack_bytes : Stack → List ℕ
 stack_bytes Plain = 80 ∷ []

@@ -1,20 +1,22 @@
 // One command of a script.
-ghost use Rattle.std.specs.Prelude.{◌≡◌, ◌+◌, ◌*◌, ◌≤◌, length, drop, Some, None, MatchResult, slice_index};
+ghost use Rattle.std.specs.Prelude.{◌≡◌, ◌≤◌, length, drop, Some, None, MatchResult, slice_index};
 ghost use Rattle.script.specs.Openings.{two};
-ghost use Rattle.script.specs.Commands.{read, fill, asked, three, ask, width, write_width, write_ask, unread};
+ghost use Rattle.script.specs.Commands.{asked, three, ask, width, write_width, write_ask, unread};
 ghost use Rattle.script.specs.Parts.{Takes, Passes};
 
 use fault::Refusal;
 
-// What a command asks for.
-#[derive(Clone, Copy)]
+// What a command asks for. Lines, types, coverages and registers stay bytes: the port refuses, by 8
+// and 9, those that name nothing.
+#[derive(Clone, Copy, Debug, PartialEq, Eq)]
 pub enum Command<'a> {
     // R: an address and a length
     Read {
         address: u32,
         length: u16,
     },
-    // W: an address and a length; the data and the mask are the script's own bytes
+    // W: an address and a length, which is the script's number of 16 bits; the data and the mask are
+    // the script's own bytes
     Write {
         address: u32,
         length: u16,
@@ -36,41 +38,30 @@ pub enum Command<'a> {
     Reset,
 }
 
-// The number that three bytes write.
-fn address(high: u8, middle: u8, low: u8) -> u32
-    ensures { result ≡ high * 65536 + middle * 256 + low }
-{
-    u32::from_be_bytes([0, high, middle, low])
-}
-
-// R has an address and a length.
-fn read(script: &[u8]) -> Result<(Command<'_>, &[u8]), Refusal>
-    ensures { MatchResult result (λ p. Takes script.now 6 (read (three script.now 1) (two script.now 4)) (asked p.0) p.1.now) (λ e. Passes script.now 6 e) }
+// The address and the length of R and W.
+fn range(script: &[u8]) -> Result<(u32, u16, &[u8]), Refusal>
+    ensures { MatchResult result (λ p. (6 ≤ length script.now) × (p.0 ≡ three script.now 1) × (p.1 ≡ two script.now 4) × (p.2.now ≡ drop 6 script.now)) (λ e. Passes script.now 6 e) }
 {
     let [_letter, a2, a1, a0, n1, n0, rest @ ..] = script else {
         return Err(Refusal::CommandCutShort);
     };
-    let address = address(*a2, *a1, *a0);
+    let address = u32::from_be_bytes([0, *a2, *a1, *a0]);
     let length = u16::from_be_bytes([*n1, *n0]);
-    Ok((Command::Read { address, length }, rest))
+    Ok((address, length, rest))
 }
 
-// W has an address and a length, then the data and the mask.
+// W has data and a mask behind its address and length.
 fn write(script: &[u8]) -> Result<(Command<'_>, &[u8]), Refusal>
     ensures { MatchResult result (λ p. Takes script.now (write_width script.now) (write_ask script.now) (asked p.0) p.1.now) (λ e. Passes script.now (write_width script.now) e) }
 {
-    let [_letter, a2, a1, a0, n1, n0, rest @ ..] = script else {
-        return Err(Refusal::CommandCutShort);
-    };
-    let address = address(*a2, *a1, *a0);
-    let length = u16::from_be_bytes([*n1, *n0]);
+    let (address, length, rest) = range(script)?;
     let count = usize::from(length);
-    let size = mask::size(count);
-    if rest.len() < count + size {
-        return Err(Refusal::CommandCutShort);
-    }
-    let (data, rest) = rest.split_at(count);
-    let (mask, rest) = rest.split_at(size);
+    let (data, rest) = rest
+        .split_at_checked(count)
+        .ok_or(Refusal::CommandCutShort)?;
+    let (mask, rest) = rest
+        .split_at_checked(mask::size(count))
+        .ok_or(Refusal::CommandCutShort)?;
     let command = Command::Write {
         address,
         length,
@@ -78,23 +69,6 @@ fn write(script: &[u8]) -> Result<(Command<'_>, &[u8]), Refusal>
         mask,
     };
     Ok((command, rest))
-}
-
-// F has an address and a line.
-fn fill(script: &[u8]) -> Result<(Command<'_>, &[u8]), Refusal>
-    ensures { MatchResult result (λ p. Takes script.now 5 (fill (three script.now 1) (slice_index script.now 4)) (asked p.0) p.1.now) (λ e. Passes script.now 5 e) }
-{
-    let [_letter, a2, a1, a0, line, rest @ ..] = script else {
-        return Err(Refusal::CommandCutShort);
-    };
-    let address = address(*a2, *a1, *a0);
-    Ok((
-        Command::Fill {
-            address,
-            line: *line,
-        },
-        rest,
-    ))
 }
 
 // L, P and Q have one byte.
@@ -117,9 +91,21 @@ impl<'a> Command<'a> {
             return Err(Refusal::CommandCutShort);
         };
         match char::from(*letter) {
-            'R' => read(script),
+            'R' => {
+                let (address, length, rest) = range(script)?;
+                Ok((Command::Read { address, length }, rest))
+            }
             'W' => write(script),
-            'F' => fill(script),
+            'F' => {
+                let [_letter, a2, a1, a0, line, rest @ ..] = script else {
+                    return Err(Refusal::CommandCutShort);
+                };
+                let command = Command::Fill {
+                    address: u32::from_be_bytes([0, *a2, *a1, *a0]),
+                    line: *line,
+                };
+                Ok((command, rest))
+            }
             'L' => {
                 let (value, rest) = one(script)?;
                 Ok((Command::LatencyType(value), rest))

@@ -1,8 +1,7 @@
 // The opening of a script: which chip, at which clock, under which layers.
 ghost use Rattle.std.specs.Prelude.{◌≡◌, drop, Some, None, MatchResult};
-ghost use Rattle.std.specs.Option.{option_map};
 ghost use Rattle.script.specs.Openings.{refused, fields, told, opening_length, OpeningComesBack};
-ghost use Rattle.script.specs.Parts.{make_letter, range_letter, stack_letter, setup, setup_of, noted};
+ghost use Rattle.script.specs.Parts.{stack_letter};
 
 use clock::{Clock, Range};
 use fault::{Fault, Refusal};
@@ -11,8 +10,8 @@ use frame::Make;
 // The most bytes that a script may have.
 pub const LONGEST: usize = 32_768;
 
-// The layers over the chip.
-#[derive(Clone, Copy)]
+// The layers over the chip. No `Option`: the stacks are named by their letters, P and K.
+#[derive(Clone, Copy, Debug, PartialEq, Eq)]
 pub enum Stack {
     // none
     Plain,
@@ -20,7 +19,7 @@ pub enum Stack {
     Keyed([u8; 16]),
 }
 
-#[derive(Clone, Copy)]
+#[derive(Clone, Copy, Debug, PartialEq, Eq)]
 pub struct Opening {
     pub make: Make,
     // the size of the chip in pages
@@ -28,162 +27,84 @@ pub struct Opening {
     pub clock: Clock,
     // which variable reads meet a refresh
     pub refresh: u32,
-    // after how many answered reads the strobe goes; 0 for never
+    // after how many answered reads the strobe goes; 0 for never, as the script has it
     pub strobes: u16,
     pub stack: Stack,
 }
 
-fn make_of(letter: u8) -> Option<Make>
-    ensures { result ≡ make_letter letter }
+// What a letter stands for. Refused by 1 where it stands for nothing.
+fn named<T: TryFrom<char>>(letter: u8) -> Result<T, Refusal>
+where
+    T::Error: Drop,
+    ensures { MatchResult result (λ x. T.try_from_gives letter (Ok x)) (λ e. (e ≡ Refusal.BadSetup) × ((u : T.Error) × T.try_from_gives letter (Err u))) }
 {
-    match char::from(letter) {
-        'A' => Some(Make::A),
-        'S' => Some(Make::S),
-        _ => None,
-    }
-}
-
-fn range_of(letter: u8) -> Option<Range>
-    ensures { result ≡ range_letter letter }
-{
-    match char::from(letter) {
-        'N' => Some(Range::Normal),
-        'X' => Some(Range::Extended),
-        _ => None,
-    }
+    T::try_from(char::from(letter)).map_err(|_| Refusal::BadSetup)
 }
 
 // The stack; K needs two pages, and sixteen bytes of key behind it.
-fn stack_of(letter: u8, pages: u16, rest: &[u8]) -> Option<Stack>
+fn stack_of(letter: char, pages: u16, rest: &[u8]) -> Option<Stack>
     ensures { result ≡ stack_letter letter pages rest.now }
 {
-    match char::from(letter) {
+    match letter {
         'P' => Some(Stack::Plain),
-        'K' if pages >= 2 && rest.len() >= 16 => {
-            let mut key = [0; 16];
-            key.copy_from_slice(&rest[0..16]);
-            Some(Stack::Keyed(key))
-        }
+        'K' if pages >= 2 => Some(Stack::Keyed(*rest.first_chunk()?)),
         _ => None,
     }
 }
 
-// An opening that is well formed, its clock not yet worked out.
-#[derive(Clone, Copy)]
-struct Setup {
-    make: Make,
-    pages: u16,
-    khz: u32,
-    range: Range,
-    refresh: u32,
-    strobes: u16,
-    stack: Stack,
-}
-
-// The fifteen bytes of an opening, letters as they stand.
-#[derive(Clone, Copy)]
-struct Raw {
-    chip: u8,
-    pages: u16,
-    khz: u32,
-    range: u8,
-    refresh: u32,
-    strobes: u16,
-    stack: u8,
-}
-
-impl Raw {
-    // What the letters stand for, with the key behind them; None where a value is not listed.
-    fn setup(self, rest: &[u8]) -> Option<Setup>
-        ensures { option_map noted result ≡ setup_of self rest.now }
+impl Opening {
+    // The opening and its key. Refused by 1, then 2, then 3.
+    fn read(input: &[u8]) -> Result<Opening, Refusal>
+        ensures { MatchResult result (λ o. (refused input.now ≡ None) × (told o ≡ fields input.now)) (λ e. refused input.now ≡ Some e) }
     {
-        if self.pages == 0 || self.pages > 16 {
-            return None;
+        if input.len() > LONGEST {
+            return Err(Refusal::BadSetup);
         }
-        let make = make_of(self.chip)?;
-        let range = range_of(self.range)?;
-        let stack = stack_of(self.stack, self.pages, rest)?;
-        Some(Setup {
-            make,
-            pages: self.pages,
-            khz: self.khz,
+        let [
+            chip,
+            p1,
+            p0,
+            f3,
+            f2,
+            f1,
+            f0,
             range,
-            refresh: self.refresh,
-            strobes: self.strobes,
+            r3,
+            r2,
+            r1,
+            r0,
+            s1,
+            s0,
+            stack,
+            rest @ ..,
+        ] = input
+        else {
+            return Err(Refusal::BadSetup);
+        };
+        let pages = u16::from_be_bytes([*p1, *p0]);
+        if pages == 0 || pages > 16 {
+            return Err(Refusal::BadSetup);
+        }
+        let make = named(*chip)?;
+        let range = named(*range)?;
+        let stack = stack_of(char::from(*stack), pages, rest).ok_or(Refusal::BadSetup)?;
+        let clock = Clock::new(u32::from_be_bytes([*f3, *f2, *f1, *f0]), range)?;
+        Ok(Opening {
+            make,
+            pages,
+            clock,
+            refresh: u32::from_be_bytes([*r3, *r2, *r1, *r0]),
+            strobes: u16::from_be_bytes([*s1, *s0]),
             stack,
         })
     }
-}
 
-// The opening and its key; None where the input is too short or too long, or a value is not
-// listed.
-fn setup_of(input: &[u8]) -> Option<Setup>
-    ensures { option_map noted result ≡ setup input.now }
-{
-    if input.len() > LONGEST {
-        return None;
-    }
-    let [
-        chip,
-        p1,
-        p0,
-        f3,
-        f2,
-        f1,
-        f0,
-        range,
-        r3,
-        r2,
-        r1,
-        r0,
-        s1,
-        s0,
-        stack,
-        rest @ ..,
-    ] = input
-    else {
-        return None;
-    };
-    let raw = Raw {
-        chip: *chip,
-        pages: u16::from_be_bytes([*p1, *p0]),
-        khz: u32::from_be_bytes([*f3, *f2, *f1, *f0]),
-        range: *range,
-        refresh: u32::from_be_bytes([*r3, *r2, *r1, *r0]),
-        strobes: u16::from_be_bytes([*s1, *s0]),
-        stack: *stack,
-    };
-    raw.setup(rest)
-}
-
-// What follows the first bytes; nothing where there are no more.
-fn behind(script: &[u8], first: usize) -> &[u8]
-    ensures { result.now ≡ drop first script.now }
-{
-    let start = first.min(script.len());
-    &script[start..]
-}
-
-impl Opening {
     // Reads the opening of a script. Refused by 1, then 2, then 3, each at place 0.
     pub fn parse(input: &[u8]) -> Result<Opening, Fault>
         ensures parsed { MatchResult result (λ o. (refused input.now ≡ None) × (told o ≡ fields input.now)) (λ f. (refused input.now ≡ Some f.refusal) × (f.place ≡ 0)) }
         ensures comes_back { OpeningComesBack input.now }
     {
-        let Some(setup) = setup_of(input) else {
-            return Err(Refusal::BadSetup.at(0));
-        };
-        match Clock::new(setup.khz, setup.range) {
-            Ok(clock) => Ok(Opening {
-                make: setup.make,
-                pages: setup.pages,
-                clock,
-                refresh: setup.refresh,
-                strobes: setup.strobes,
-                stack: setup.stack,
-            }),
-            Err(refusal) => Err(refusal.at(0)),
-        }
+        Opening::read(input).map_err(|refusal| refusal.at(0))
     }
 
     // How many bytes of the script the opening takes, with its key: the commands follow.
@@ -200,6 +121,6 @@ impl Opening {
     pub fn commands<'a>(&self, script: &'a [u8]) -> &'a [u8]
         ensures { result.now ≡ drop (opening_length self.now.stack) script.now }
     {
-        behind(script, self.length())
+        script.get(self.length()..).unwrap_or_default()
     }
 }

@@ -9,19 +9,19 @@ use std::io;
 use std::io::{BufWriter, Read, Write};
 use words::Listing;
 
+// The commands in words. (`script_table` prints them so too, behind another line: four lines that hold
+// a list and what borrows it, and cannot be handed on.)
 fn print<W: Write>(heap: Global, out: &mut W, script: &[u8]) -> io::Result<()> {
     // a script has at most as many commands as bytes
     let mut commands = Vec::with_capacity(heap, script.len())?;
     let ending = read(script, &mut commands)?;
-    let listing = Listing {
-        commands: &commands,
-        ending,
-    };
-    write!(out, "{listing}")
+    let commands = &commands;
+    write!(out, "{}", Listing { commands, ending })
 }
 
 fn main(rt: HostRuntime) -> io::Result<()> {
-    // one byte more than a script may have, so that one that is too long is seen to be
+    // one byte more than a script may have, so that one that is too long is seen to be (two lines, as in
+    // `psram_run`)
     let mut input = Vec::new(rt.alloc());
     rt.stdin().take(LONGEST as u64 + 1).read_to_end(&mut input)?;
     let mut out = BufWriter::new(rt.alloc(), rt.stdout())?;

@@ -47,9 +47,7 @@ fn write<W: Write>(heap: Global, out: &mut W, length: u16, cut: usize) -> io::Re
     let all = 6 + count + mask::size(count);
     let mut commands = vec![in heap; 0; all]?;
     commands[0] = b'W';
-    let bytes = length.to_be_bytes();
-    commands[4] = bytes[0];
-    commands[5] = bytes[1];
+    commands[4..6].copy_from_slice(&length.to_be_bytes());
     counts(heap, out, &commands[..all.saturating_sub(cut)])
 }
 

@@ -1,5 +1,6 @@
 // What is read of one script.
-use listing::{Ending, Placed, list, read};
+use fault::Fault;
+use listing::{Placed, list, read};
 use report::first_line;
 use script::Command;
 use std::alloc::Global;
@@ -7,23 +8,19 @@ use std::io;
 use std::io::Write;
 use words::Listing;
 
-// The first line of the report, and the commands in words.
+// The first line of the report, and the commands in words (as `script_list` prints them).
 pub fn listing<W: Write>(heap: Global, out: &mut W, script: &[u8]) -> io::Result<()> {
     let count = script.len();
-    let first = first_line(script);
-    writeln!(out, "of {count}: {first}")?;
+    writeln!(out, "of {count}: {}", first_line(script))?;
     let mut commands = Vec::with_capacity(heap, count)?;
     let ending = read(script, &mut commands)?;
-    let listing = Listing {
-        commands: &commands,
-        ending,
-    };
-    write!(out, "{listing}")
+    let commands = &commands;
+    write!(out, "{}", Listing { commands, ending })
 }
 
 // The length, the bytes of data and the bytes of mask of a command.
-fn parts(placed: &Placed<'_>) -> (u16, usize, usize) {
-    match placed.command {
+fn parts(command: Command<'_>) -> (u16, usize, usize) {
+    match command {
         Command::Read { length, .. } => (length, 0, 0),
         Command::Write {
             length,
@@ -40,18 +37,15 @@ pub fn counts<W: Write>(heap: Global, out: &mut W, script: &[u8]) -> io::Result<
     let bytes = script.len();
     let mut commands = Vec::with_capacity(heap, bytes)?;
     let ending = list(script, &mut commands)?;
-    let count = commands.len();
-    writeln!(out, "commands {count} in {bytes}")?;
-    if let Some(last) = commands.last() {
-        let place = last.place;
-        let (length, data, mask) = parts(last);
+    writeln!(out, "commands {} in {bytes}", commands.len())?;
+    if let Some(Placed { place, command }) = commands.last() {
+        let (length, data, mask) = parts(*command);
         writeln!(out, "@{place} length {length} data {data} mask {mask}")?;
     }
     match ending {
-        Ending::AtEnd => writeln!(out, "at the end"),
-        Ending::Refused { refusal, place } => {
-            let number = refusal.account().number;
-            writeln!(out, "by {number} at {place}")
+        None => writeln!(out, "at the end"),
+        Some(Fault { refusal, place }) => {
+            writeln!(out, "by {} at {place}", refusal.account().number)
         }
     }
 }

@@ -11,7 +11,7 @@ use Rattle.words.specs.Listings.{lines}
 use Rattle.words.specs.Words.{words}
 
 -- the line of one command
-abbrev pub line_of : Placed → List ℕ
+abbrev line_of : Placed → List ℕ
 line_of p = words p.place (asked p.command) ++ 10 ∷ []
 
 lines_push : (ps : List Placed) (p : Placed) → lines (seen (ps ++ p ∷ [])) ≡ lines (seen ps) ++ line_of p
