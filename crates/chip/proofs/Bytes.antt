@@ -1,6 +1,6 @@
 -- A byte changes by writes only. Assumes nothing.
 use Rattle.std.proofs.Common.{◌≡◌, ℕ, zero, suc, ◌<◌, Bool, true, false, cond, not, ◌&&◌, eqb, List, [], ◌∷◌, length, Some, None, Option, Result, sym, refl, ap, ◌∙◌, subst, arith}
-use Rattle.std.proofs.lemmas.Bool.{eqb-true, cond-true, and_from}
+use Rattle.std.proofs.lemmas.Bool.{eqb-true, cond-true, and_from, false_from_ne_true}
 use Rattle.fault.specs.declared.Fault.{Fault}
 use Rattle.fault.specs.declared.Refusal.{Refusal}
 use Rattle.mask.specs.Masks.{masked}
@@ -42,23 +42,19 @@ held_by r s t (register_write k v) a never strobe before after = and_from _ _ st
 held_by r s t global_reset a never strobe before after = sym never
 
 module _ (m n : Meaning) (a : ℕ) (in_it : a < size m.kind) (before : Safe m a) (after : Safe n a) where
-  taken_spares : (f : Sent) (free : Free) (old new : List ℕ) (r : Result Reply Fault) → wakes f ≡ false → (Reaches m f a → ⊥) → Taken m f free old r n new → n.byte a ≡ m.byte a
+  taken_spares : (f : Sent) (free : Free) (old new : List ℕ) (r : Result Reply (Fault ℕ)) → wakes f ≡ false → (Reaches m f a → ⊥) → Taken m f free old r n new → n.byte a ≡ m.byte a
   taken_spares f free old new r never miss t =
       let seen : m.refreshes (coverage n.state) a ≡ true = sym (ap (λ c. c (coverage n.state) a) t.part.refreshes) ∙ after.refreshed in
       t.bytes a in_it
       ∙ cond-true _ _ _ (held_by m.refreshes m.state n.state f a never after.strobe before.refreshed seen)
       ∙ unstored m f a (m.byte a) miss
 
-not_true_false : (b : Bool) → (b ≡ true → ⊥) → b ≡ false
-not_true_false true never = absurd (never refl)
-not_true_false false never = refl
-
-judged_spares : (o : Option Refusal) (m n : Meaning) (a : ℕ) (f : Sent) (old new : List ℕ) (r : Result Reply Fault) → a < size m.kind → Safe m a → Safe n a → ((o ≡ None) × (wakes f ≡ true) → ⊥) → ((o ≡ None) × Reaches m f a → ⊥) → Judged o m f old r n new → n.byte a ≡ m.byte a
+judged_spares : (o : Option Refusal) (m n : Meaning) (a : ℕ) (f : Sent) (old new : List ℕ) (r : Result Reply (Fault ℕ)) → a < size m.kind → Safe m a → Safe n a → ((o ≡ None) × (wakes f ≡ true) → ⊥) → ((o ≡ None) × Reaches m f a → ⊥) → Judged o m f old r n new → n.byte a ≡ m.byte a
 judged_spares (Some e) m n a f old new r in_it before after never miss j = ap (λ x. x.byte a) j.1
 judged_spares None m n a f old new r in_it before after never miss (free, t) =
-    taken_spares m n a in_it before after f free old new r (not_true_false (wakes f) (λ w. never (refl, w))) (λ hit. miss (refl, hit)) t
+    taken_spares m n a in_it before after f free old new r (false_from_ne_true (wakes f) (λ w. never (refl, w))) (λ hit. miss (refl, hit)) t
 
-reset_spares : (o : Option Refusal) (m n : Meaning) (a : ℕ) (r : Result (Unit {0}) Fault) → (o ≡ None → ⊥) → ResetJudged o m r n → n.byte a ≡ m.byte a
+reset_spares : (o : Option Refusal) (m n : Meaning) (a : ℕ) (r : Result (Unit {0}) (Fault ℕ)) → (o ≡ None → ⊥) → ResetJudged o m r n → n.byte a ≡ m.byte a
 reset_spares (Some e) m n a r never j = ap (λ x. x.byte a) j.1
 reset_spares None m n a r never j = absurd (never refl)
 

@@ -1,5 +1,6 @@
 -- The counts rise by what was sent. Assumes nothing.
-use Rattle.std.proofs.Common.{◌≡◌, ℕ, ◌+◌, ◌^◌, ◌<◌, Bool, true, false, List, [], ◌∷◌, Some, None, Option, Result, sym, refl, ap, ◌∙◌, subst, arith}
+use Rattle.std.proofs.Common.{◌≡◌, ℕ, ◌+◌, ◌^◌, ◌<◌, true, false, List, [], ◌∷◌, Some, None, Option, Result, sym, refl, ap, ◌∙◌, subst, arith}
+use Rattle.std.proofs.lemmas.Bool.{false_from_ne_true}
 use Rattle.fault.specs.declared.Fault.{Fault}
 use Rattle.fault.specs.declared.Refusal.{Refusal}
 use Rattle.frame.specs.Low.{held}
@@ -29,14 +30,14 @@ after_frames k s (read b a n) free never = refl
 after_frames k s (write b a d m) free never = refl
 after_frames k s (register_read n) free never = refl
 after_frames k s (register_write n v) free never = refl
-after_frames k s global_reset free never = absurd (let z : ◌≡◌ {A = ℕ} 0 1 = cc in omega arith)
+after_frames k s global_reset free never = cc
 
 after_clocks : (k : Kind) (s : State) (f : Sent) (free : Free) → wakes f ≡ false → (after k s f free).clocks ≡ held (s.clocks + (after k s f free).low)
 after_clocks k s (read b a n) free never = refl
 after_clocks k s (write b a d m) free never = refl
 after_clocks k s (register_read n) free never = refl
 after_clocks k s (register_write n v) free never = refl
-after_clocks k s global_reset free never = absurd (let z : ◌≡◌ {A = ℕ} 0 1 = cc in omega arith)
+after_clocks k s global_reset free never = cc
 
 rises : (m n : Meaning) (s : State) → n.state ≡ s → s.frames ≡ held (m.state.frames + 1) → s.clocks ≡ held (m.state.clocks + s.low) → Risen m 1 n.state.low n
 rises m n s is frames clocks = record {
@@ -56,17 +57,13 @@ stays m n fit frames clocks = record { frames = held_none _ _ frames (fit.0 fram
 stays_whole : (m n : Meaning) → FitsStill m n → n ≡ m → Risen m 0 0 n
 stays_whole m n fit is = stays m n fit (ap (λ x. x.state.frames) is) (ap (λ x. x.state.clocks) is)
 
-no_wake : (o : Option Refusal) (b : Bool) → o ≡ None → ((o ≡ None) × (b ≡ true) → ⊥) → b ≡ false
-no_wake o true e never = absurd (never (e, refl))
-no_wake o false e never = refl
-
-judged_rises : (o : Option Refusal) (m n : Meaning) (f : Sent) (old new : List ℕ) (r : Result Reply Fault) → FitsStill m n → ((o ≡ None) × (wakes f ≡ true) → ⊥) → Judged o m f old r n new → Risen m (unless_refused o 1) (unless_refused o n.state.low) n
+judged_rises : (o : Option Refusal) (m n : Meaning) (f : Sent) (old new : List ℕ) (r : Result Reply (Fault ℕ)) → FitsStill m n → ((o ≡ None) × (wakes f ≡ true) → ⊥) → Judged o m f old r n new → Risen m (unless_refused o 1) (unless_refused o n.state.low) n
 judged_rises (Some e) m n f old new r fit never j = stays_whole m n fit j.1
 judged_rises None m n f old new r fit never (free, t) =
-    let still : wakes f ≡ false = no_wake None (wakes f) refl never in
+    let still : wakes f ≡ false = false_from_ne_true (wakes f) (λ w. never (refl, w)) in
     rises m n _ t.state (after_frames m.kind m.state f free still) (after_clocks m.kind m.state f free still)
 
-reset_rises : (o : Option Refusal) (m n : Meaning) (r : Result (Unit {0}) Fault) → FitsStill m n → ResetJudged o m r n → Risen m 0 0 n
+reset_rises : (o : Option Refusal) (m n : Meaning) (r : Result (Unit {0}) (Fault ℕ)) → FitsStill m n → ResetJudged o m r n → Risen m 0 0 n
 reset_rises (Some e) m n r fit j = stays_whole m n fit j.1
 reset_rises None m n r fit (ok, (strobe, t)) = stays m n fit (ap (λ x. x.frames) t.state) (ap (λ x. x.clocks) t.state)
 

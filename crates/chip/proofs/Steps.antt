@@ -1,5 +1,6 @@
 -- What one event does, by whether it is refused, is taken or wakes the chip. Assumes nothing.
 use Rattle.std.proofs.Common.{◌≡◌, ℕ, ◌≤◌, Bool, true, false, cond, List, [], ◌∷◌, ◌++◌, Some, None, Ok, Err, Option, Result, sym, refl, ap, ◌∙◌, arith}
+use Rattle.std.proofs.lemmas.Option.{same_Some}
 use Rattle.fault.specs.Refusals.{account, fault_at}
 use Rattle.fault.specs.declared.Fault.{Fault}
 use Rattle.fault.specs.declared.Refusal.{Refusal}
@@ -11,18 +12,18 @@ use Rattle.chip.specs.Runs.{Event, sending, resetting, Does, Restart, Step, Runs
 use Rattle.chip.specs.declared.parts.Kind.{Kind}
 use Rattle.chip.specs.declared.parts.Reply.{Reply}
 use Rattle.chip.specs.declared.parts.State.{State}
-use Rattle.chip.proofs.Tests.{none_some, some_same, refused_range, reset_refused_range}
+use Rattle.chip.proofs.Tests.{refused_range, reset_refused_range}
 
 -- ---- what never changes
 
 same_part : {m n : Meaning} → n ≡ m → SamePart m n
 same_part e = record { kind = ap (λ x. x.kind) e; refreshes = ap (λ x. x.refreshes) e }
 
-judged_part : (o : Option Refusal) (m n : Meaning) (f : Sent) (old new : List ℕ) (r : Result Reply Fault) → Judged o m f old r n new → SamePart m n
+judged_part : (o : Option Refusal) (m n : Meaning) (f : Sent) (old new : List ℕ) (r : Result Reply (Fault ℕ)) → Judged o m f old r n new → SamePart m n
 judged_part (Some e) m n f old new r j = same_part j.1
 judged_part None m n f old new r j = j.1.part
 
-reset_part : (o : Option Refusal) (m n : Meaning) (r : Result (Unit {0}) Fault) → ResetJudged o m r n → SamePart m n
+reset_part : (o : Option Refusal) (m n : Meaning) (r : Result (Unit {0}) (Fault ℕ)) → ResetJudged o m r n → SamePart m n
 reset_part (Some e) m n r j = same_part j.1
 reset_part None m n r j = j.1.1.part
 
@@ -46,50 +47,47 @@ joined (s ∷ xs) ys (onward d r) more = onward d (joined xs ys r more)
 -- ---- what is refused leaves everything
 
 -- a frame that is taken answers, or faults by 19
-err_answer : (x : Reply) (y : Fault) → ◌≡◌ {A = Result Reply Fault} (Ok x) (Err y) → ⊥
-err_answer x y e = let z : ◌≡◌ {A = ℕ} 0 1 = cc in omega arith
+lost : (b : Bool) (x : Reply) (a : ℕ) (y : Fault ℕ) → Err y ≡ cond b (Ok x) (Err (fault_at (NoStrobe 0) a)) → y.refusal ≡ NoStrobe 0
+lost true x a y e = cc
+lost false x a y e = cc
 
-lost : (b : Bool) (x : Reply) (a : ℕ) (y : Fault) → Err y ≡ cond b (Ok x) (Err (fault_at (NoStrobe 0) a)) → y.refusal ≡ NoStrobe 0
-lost true x a y e = absurd (err_answer x y (sym e))
-lost false x a y e = let same : y ≡ fault_at (NoStrobe 0) a = cc in ap (λ z. z.refusal) same
+answered : (x : Reply) (y : Fault ℕ) → Err y ≡ Ok x → y.refusal ≡ NoStrobe 0
+answered x y e = cc
 
-answered : (x : Reply) (y : Fault) → Err y ≡ Ok x → y.refusal ≡ NoStrobe 0
-answered x y e = absurd (err_answer x y (sym e))
-
-pub only_19 : {m n : Meaning} {free : Free} {old new : List ℕ} (f : Sent) (y : Fault) → Taken m f free old (Err y) n new → y.refusal ≡ NoStrobe 0
+pub only_19 : {m n : Meaning} {free : Free} {old new : List ℕ} (f : Sent) (y : Fault ℕ) → Taken m f free old (Err y) n new → y.refusal ≡ NoStrobe 0
 only_19 (read b a k) y t = lost _ _ a y t.answer
 only_19 (write b a d k) y t = answered _ y t.answer
 only_19 (register_read k) y t = lost _ _ 0 y t.answer
 only_19 (register_write k v) y t = answered _ y t.answer
 only_19 global_reset y t = answered _ y t.answer
 
-judged_fault : (o : Option Refusal) (m n : Meaning) (f : Sent) (old new : List ℕ) (r : Result Reply Fault) (x : Refusal) → o ≡ Some x → Judged o m f old r n new → err r ≡ Some (fault_at x (place f))
-judged_fault (Some e) m n f old new r x is j = ap err j.0 ∙ ap (λ z. Some (fault_at z (place f))) (some_same e x is)
-judged_fault None m n f old new r x is j = absurd (none_some x is)
+judged_fault : (o : Option Refusal) (m n : Meaning) (f : Sent) (old new : List ℕ) (r : Result Reply (Fault ℕ)) (x : Refusal) → o ≡ Some x → Judged o m f old r n new → err r ≡ Some (fault_at x (place f))
+judged_fault (Some e) m n f old new r x is j = ap err j.0 ∙ ap (λ z. Some (fault_at z (place f))) (same_Some e x is)
+judged_fault None m n f old new r x is j = cc
 
-reset_fault : (o : Option Refusal) (m n : Meaning) (r : Result (Unit {0}) Fault) (x : Refusal) → o ≡ Some x → ResetJudged o m r n → err r ≡ Some (fault_at x 0)
-reset_fault (Some e) m n r x is j = ap err j.0 ∙ ap (λ z. Some (fault_at z 0)) (some_same e x is)
-reset_fault None m n r x is j = absurd (none_some x is)
+reset_fault : (o : Option Refusal) (m n : Meaning) (r : Result (Unit {0}) (Fault ℕ)) (x : Refusal) → o ≡ Some x → ResetJudged o m r n → err r ≡ Some (fault_at x 0)
+reset_fault (Some e) m n r x is j = ap err j.0 ∙ ap (λ z. Some (fault_at z 0)) (same_Some e x is)
+reset_fault None m n r x is j = cc
 
-judged_test : (o : Option Refusal) (m n : Meaning) (f : Sent) (old new : List ℕ) (r : Result Reply Fault) (x : Refusal) → o ≡ Some x → Judged o m f old r n new → (n ≡ m) × (new ≡ old)
+judged_test : (o : Option Refusal) (m n : Meaning) (f : Sent) (old new : List ℕ) (r : Result Reply (Fault ℕ)) (x : Refusal) → o ≡ Some x → Judged o m f old r n new → (n ≡ m) × (new ≡ old)
 judged_test (Some e) m n f old new r x is j = (j.1, j.2)
-judged_test None m n f old new r x is j = absurd (none_some x is)
+judged_test None m n f old new r x is j = cc
 
-judged_answer : (o : Option Refusal) (m n : Meaning) (f : Sent) (old new : List ℕ) (r : Result Reply Fault) (x : Fault) → err r ≡ Some x → (account x.refusal).number ≤ 18 → Judged o m f old r n new → (n ≡ m) × (new ≡ old)
+judged_answer : (o : Option Refusal) (m n : Meaning) (f : Sent) (old new : List ℕ) (r : Result Reply (Fault ℕ)) (x : Fault ℕ) → err r ≡ Some x → (account x.refusal).number ≤ 18 → Judged o m f old r n new → (n ≡ m) × (new ≡ old)
 judged_answer (Some e) m n f old new r x is low j = (j.1, j.2)
-judged_answer None m n f old new (Ok y) x is low j = absurd (none_some x is)
+judged_answer None m n f old new (Ok y) x is low j = cc
 judged_answer None m n f old new (Err y) x is low j =
-    let same : y.refusal ≡ x.refusal = ap (λ z. z.refusal) (some_same y x is) in
+    let same : y.refusal ≡ x.refusal = ap (λ z. z.refusal) (same_Some y x is) in
     let nineteen : (account x.refusal).number ≡ 19 = ap (λ z. (account z).number) (sym same ∙ only_19 f y j.1) in
     absurd (omega arith)
 
-reset_test : (o : Option Refusal) (m n : Meaning) (r : Result (Unit {0}) Fault) (x : Refusal) → o ≡ Some x → ResetJudged o m r n → n ≡ m
+reset_test : (o : Option Refusal) (m n : Meaning) (r : Result (Unit {0}) (Fault ℕ)) (x : Refusal) → o ≡ Some x → ResetJudged o m r n → n ≡ m
 reset_test (Some e) m n r x is j = j.1
-reset_test None m n r x is j = absurd (none_some x is)
+reset_test None m n r x is j = cc
 
-reset_answer : (o : Option Refusal) (m n : Meaning) (r : Result (Unit {0}) Fault) (x : Fault) → err r ≡ Some x → ResetJudged o m r n → n ≡ m
+reset_answer : (o : Option Refusal) (m n : Meaning) (r : Result (Unit {0}) (Fault ℕ)) (x : Fault ℕ) → err r ≡ Some x → ResetJudged o m r n → n ≡ m
 reset_answer (Some e) m n r x is j = j.1
-reset_answer None m n r x is j = absurd (none_some x (ap err (sym j.0) ∙ is))
+reset_answer None m n r x is j = let e : None ≡ Some x = ap err (sym j.0) ∙ is in cc
 
 pub refused_leaves : (m n : Meaning) (e : Event) → Does m e n → RefusedLeaves m e n
 refused_leaves m n (sending gap f old r new) d = record {
@@ -124,12 +122,12 @@ not_back : (b c : Bool) → (c ≡ true → b ≡ true) → b ≡ false → c �
 not_back b true back gone = sym (back refl) ∙ gone
 not_back b false back gone = refl
 
-judged_strobe : (o : Option Refusal) (m n : Meaning) (f : Sent) (old new : List ℕ) (r : Result Reply Fault) → Judged o m f old r n new → m.state.strobe ≡ false → n.state.strobe ≡ false
+judged_strobe : (o : Option Refusal) (m n : Meaning) (f : Sent) (old new : List ℕ) (r : Result Reply (Fault ℕ)) → Judged o m f old r n new → m.state.strobe ≡ false → n.state.strobe ≡ false
 judged_strobe (Some e) m n f old new r j gone = ap (λ x. x.state.strobe) j.1 ∙ gone
 judged_strobe None m n f old new r (free, t) gone =
     ap (λ x. x.strobe) t.state ∙ after_strobe m.kind m.state f free ∙ not_back _ _ t.allowed.strobe gone
 
-reset_strobe : (o : Option Refusal) (m n : Meaning) (r : Result (Unit {0}) Fault) → (o ≡ None → ⊥) → ResetJudged o m r n → m.state.strobe ≡ false → n.state.strobe ≡ false
+reset_strobe : (o : Option Refusal) (m n : Meaning) (r : Result (Unit {0}) (Fault ℕ)) → (o ≡ None → ⊥) → ResetJudged o m r n → m.state.strobe ≡ false → n.state.strobe ≡ false
 reset_strobe (Some e) m n r never j gone = ap (λ x. x.state.strobe) j.1 ∙ gone
 reset_strobe None m n r never j gone = absurd (never refl)
 

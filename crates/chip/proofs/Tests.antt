@@ -1,32 +1,12 @@
 -- What follows from the tests of a frame: which refusals they give, and what holds where they give none. Assumes nothing.
-use Rattle.std.proofs.Common.{◌≡◌, ℕ, ◌≤◌, Bool, true, false, List, [], ◌∷◌, Some, None, sym, refl, subst, arith}
+use Rattle.std.proofs.Common.{◌≡◌, ℕ, ◌≤◌, Bool, true, false, List, [], ◌∷◌, Some, None, refl, subst, arith}
+use Rattle.std.proofs.lemmas.Option.{same_Some}
 use Rattle.fault.specs.Refusals.{account}
 use Rattle.fault.specs.declared.Refusal.{Refusal}
 use Rattle.chip.specs.Frames.{first, Sent, bad_start, bad_register, refused}
 use Rattle.chip.specs.Resets.{reset_refused}
 use Rattle.chip.specs.declared.parts.Kind.{Kind}
 use Rattle.chip.specs.declared.parts.State.{State}
-
-pub none_some : {A : Type 0} (x : A) → None ≡ Some x → ⊥
-none_some x e = let z : ◌≡◌ {A = ℕ} 0 1 = cc in omega arith
-
-pub some_same : {A : Type 0} (x y : A) → Some x ≡ Some y → x ≡ y
-some_same x y e = cc
-
--- where no test holds, the first does not, and none of the others does
-none_first : (t : Bool) (r : Refusal) (rest : List (Bool × Refusal)) → first ((t, r) ∷ rest) ≡ None → (t ≡ false) × (first rest ≡ None)
-unfolding first
-none_first true r rest e = absurd (none_some _ (sym e))
-none_first false r rest e = (refl, e)
-
-pub good_start : (k : Kind) (s : State) (gap : ℕ) (f : Sent) → refused k s gap f ≡ None → bad_start k f ≡ false
-good_start k s gap f e = (none_first _ _ _ (none_first _ _ _ (none_first _ _ _ e).1).1).0
-
-pub good_register : (k : Kind) (s : State) (gap : ℕ) (f : Sent) → refused k s gap f ≡ None → bad_register f ≡ false
-good_register k s gap f e =
-    (none_first _ _ _ (none_first _ _ _ (none_first _ _ _ (none_first _ _ _ (none_first _ _ _ (none_first _ _ _ e).1).1).1).1).1).0
-
--- ---- the refusals of a chip
 
 -- each refusal of a list is one of 13 to 18
 abbrev InRange : Refusal → Type 0
@@ -38,8 +18,8 @@ Listed ((t, r) ∷ rest) = InRange r × Listed rest
 
 first_listed : (tests : List (Bool × Refusal)) (x : Refusal) → Listed tests → first tests ≡ Some x → InRange x
 unfolding first
-first_listed [] x all e = absurd (none_some x e)
-first_listed ((true, r) ∷ rest) x all e = subst InRange (some_same r x e) all.0
+first_listed [] x all e = cc
+first_listed ((true, r) ∷ rest) x all e = subst InRange (same_Some r x e) all.0
 first_listed ((false, r) ∷ rest) x all e = first_listed rest x all.1 e
 
 pub refused_range : (k : Kind) (s : State) (gap : ℕ) (f : Sent) (x : Refusal) → refused k s gap f ≡ Some x → (13 ≤ (account x).number) × ((account x).number ≤ 18)
@@ -47,3 +27,16 @@ refused_range k s gap f x e = first_listed _ x ((omega arith, omega arith), ((om
 
 pub reset_refused_range : (k : Kind) (s : State) (pulse : ℕ) (x : Refusal) → reset_refused k s pulse ≡ Some x → (13 ≤ (account x).number) × ((account x).number ≤ 18)
 reset_refused_range k s pulse x e = first_listed _ x ((omega arith, omega arith), ((omega arith, omega arith), tt)) e
+
+-- where no test holds, the first does not, and none of the others does
+none_first : (t : Bool) (r : Refusal) (rest : List (Bool × Refusal)) → first ((t, r) ∷ rest) ≡ None → (t ≡ false) × (first rest ≡ None)
+unfolding first
+none_first true r rest e = cc
+none_first false r rest e = (refl, e)
+
+pub good_start : (k : Kind) (s : State) (gap : ℕ) (f : Sent) → refused k s gap f ≡ None → bad_start k f ≡ false
+good_start k s gap f e = (none_first _ _ _ (none_first _ _ _ (none_first _ _ _ e).1).1).0
+
+pub good_register : (k : Kind) (s : State) (gap : ℕ) (f : Sent) → refused k s gap f ≡ None → bad_register f ≡ false
+good_register k s gap f e =
+    (none_first _ _ _ (none_first _ _ _ (none_first _ _ _ (none_first _ _ _ (none_first _ _ _ (none_first _ _ _ e).1).1).1).1).1).0

@@ -2,6 +2,7 @@
 use Rattle.std.proofs.Common.{◌≡◌, ℕ, ◌%◌, ◌<◌, ◌≤◌, Bool, true, false, cond, not, ◌||◌, eqb, ltb, leb, List, length, get_or, Some, None, MatchBool, Option, Result, sym, refl, ap, ◌∙◌, subst, ⊎_elim, arith}
 use Rattle.std.proofs.lemmas.Bool.{or_parts, or_cases, not-false, leb-true, leb-false, ltb-true, eqb-true, le-leb, cond-true}
 use Rattle.std.proofs.lemmas.Bool.Decides.{nat_tests}
+use Rattle.std.proofs.lemmas.Option.{cond_some, same_Some}
 use Rattle.fault.specs.declared.Fault.{Fault}
 use Rattle.fault.specs.declared.Refusal.{Refusal}
 use Rattle.frame.specs.Bursts.{at}
@@ -16,24 +17,19 @@ use Rattle.chip.specs.Frames.{Sent, read, write, register_read, register_write, 
 use Rattle.chip.specs.Meaning.{Meaning, Lawful, size, strobe_at}
 use Rattle.chip.specs.Wire.{linear, command_of_frame, address_of_frame, opening_of_frame, Follows, follows_in_frame, Decodes, TakenHasOpening, DoesTheSame, SameOnTheWire}
 use Rattle.chip.specs.declared.parts.Reply.{Reply}
-use Rattle.chip.proofs.Tests.{none_some, some_same, good_start, good_register}
+use Rattle.chip.proofs.Tests.{good_start, good_register}
 
 -- ---- opening bytes
 
--- there is something only where the test holds
-cond_some : {A : Type 0} (b : Bool) (x y : A) → Some y ≡ cond b (Some x) None → b ≡ true
-cond_some true x y e = refl
-cond_some false x y e = absurd (none_some y (sym e))
-
 cond_none : {A : Type 0} (b : Bool) (x : A) → None ≡ cond b (Some x) None → b ≡ false
-cond_none true x e = absurd (none_some x e)
+cond_none true x e = cc
 cond_none false x e = refl
 
 pub decodes : GivesBack → (r : Option (List ℕ)) (c : Command) (a : ℕ) → r ≡ opening c a → Decodes r c a
 decodes back None c a is = leb-false a (last_address c) (cond_none _ _ is)
 decodes back (Some bytes) c a is =
-    let given = back c a (leb-true a (last_address c) (cond_some _ _ _ is)) in
-    subst (λ x. opened x ≡ Some (c, a)) (some_same _ _ (sym given.1 ∙ sym is)) given.2
+    let given = back c a (leb-true a (last_address c) (cond_some _ _ _ (sym is)).0) in
+    subst (λ x. opened x ≡ Some (c, a)) (same_Some _ _ (sym given.1 ∙ sym is)) given.2
 
 -- ---- a frame that is taken has opening bytes
 
@@ -66,21 +62,18 @@ taken_has_opening m gap global_reset law e = carries GlobalReset 0 (omega arith)
 
 -- ---- the burst that a frame names
 
-differ : true ≡ false → ⊥
-differ e = let z : ◌≡◌ {A = ℕ} 0 1 = cc in omega arith
-
-pub same_burst : (b c : Burst) → linear b ≡ linear c → (mr8 : ℕ) → on_wire b mr8 ≡ on_wire c mr8
+same_burst : (b c : Burst) → linear b ≡ linear c → (mr8 : ℕ) → on_wire b mr8 ≡ on_wire c mr8
 same_burst Linear Linear e v = refl
-same_burst Linear (Wrapped c) e v = absurd (differ e)
-same_burst Linear (Hybrid c) e v = absurd (differ e)
-same_burst (Wrapped b) Linear e v = absurd (differ (sym e))
+same_burst Linear (Wrapped c) e v = cc
+same_burst Linear (Hybrid c) e v = cc
+same_burst (Wrapped b) Linear e v = cc
 same_burst (Wrapped b) (Wrapped c) e v = refl
 same_burst (Wrapped b) (Hybrid c) e v = refl
-same_burst (Hybrid b) Linear e v = absurd (differ (sym e))
+same_burst (Hybrid b) Linear e v = cc
 same_burst (Hybrid b) (Wrapped c) e v = refl
 same_burst (Hybrid b) (Hybrid c) e v = refl
 
-module _ (b c : Burst) (a : ℕ) (wire : (mr8 : ℕ) → on_wire b mr8 ≡ on_wire c mr8) (m n : Meaning) (old new : List ℕ) (r : Result Reply Fault) where
+module _ (b c : Burst) (a : ℕ) (wire : (mr8 : ℕ) → on_wire b mr8 ≡ on_wire c mr8) (m n : Meaning) (old new : List ℕ) (r : Result Reply (Fault ℕ)) where
   judged_read : (k : ℕ) (o : Option Refusal) → Judged o m (read b a k) old r n new → Judged o m (read c a k) old r n new
   judged_read k (Some e) j = j
   judged_read k None (free, t) = (
@@ -161,7 +154,7 @@ comes_in (register_write k v) = itself (register_write k v)
 comes_in global_reset = itself global_reset
 
 same_bytes : GivesBack → (f g : Sent) (bytes : List ℕ) → opening_of_frame f ≡ Some bytes → opening_of_frame g ≡ Some bytes → ◌≡◌ {A = Command × ℕ} (command_of_frame f, address_of_frame f) (command_of_frame g, address_of_frame g)
-same_bytes back f g bytes p q = some_same _ _ (sym (decodes back (Some bytes) _ _ (sym p)) ∙ decodes back (Some bytes) _ _ (sym q))
+same_bytes back f g bytes p q = same_Some _ _ (sym (decodes back (Some bytes) _ _ (sym p)) ∙ decodes back (Some bytes) _ _ (sym q))
 
 same_frames : GivesBack → (f g : Sent) (bytes : List ℕ) → opening_of_frame f ≡ Some bytes → opening_of_frame g ≡ Some bytes → follows_in_frame f ≡ follows_in_frame g → DoesTheSame f g
 unfolding on_the_wire
@@ -172,8 +165,3 @@ same_frames back f g bytes p q follows m n gap old new r s =
 
 pub same_on_the_wire : GivesBack → SameOnTheWire
 same_on_the_wire back = record { bursts = same_burst; reads = same_reads; writes = same_writes; frames = same_frames back }
-
--- ---- the opening bytes of a frame whose command and address are known
-
-pub opened_with : (r : Option (List ℕ)) (p : Command × ℕ) (f : Sent) → r ≡ opening p.0 p.1 → p ≡ (command_of_frame f, address_of_frame f) → r ≡ opening_of_frame f
-opened_with r p f value is = value ∙ ap (λ q. opening q.0 q.1) is

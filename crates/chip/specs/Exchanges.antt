@@ -7,7 +7,7 @@ use Rattle.chip.specs.Runs.{Event, Does, Restart, Wake, Step, Runs, Spares, fram
 use Rattle.chip.specs.declared.parts.Reply.{Reply}
 
 -- the low clocks of a frame, by its answer: one with a 19 was sent, and one with another fault was refused
-abbrev pub low_by_answer : Result Reply Fault → ℕ → ℕ
+abbrev pub low_by_answer : Result Reply (Fault ℕ) → ℕ → ℕ
 low_by_answer (Ok x) latest = latest
 low_by_answer (Err e) latest = cond ((account e.refusal).number == 19) latest 0
 

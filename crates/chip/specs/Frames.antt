@@ -239,7 +239,7 @@ holds r s t (register_write n v) x = strobe_at t x && (r (coverage s) x && r (co
 holds r s t global_reset x = false
 
 -- the answer, by the state after the frame: a read without the strobe is 19
-abbrev pub reply : Kind → State → State → Sent → Result Reply Fault
+abbrev pub reply : Kind → State → State → Sent → Result Reply (Fault ℕ)
 reply k s t (read b a n) = cond (strobe_at t a) (Ok Done) (Err (fault_at (NoStrobe 0) a))
 reply k s t (write b a d m) = Ok Done
 reply k s t (register_read n) = cond (register_strobe t) (Ok (Register (register k s n))) (Err (fault_at (NoStrobe 0) 0))
@@ -260,7 +260,7 @@ pub record SamePart (m n : Meaning) : Type 0 where
   pub refreshes : n.refreshes ≡ m.refreshes
 
 -- a frame that is taken
-pub record Taken (m : Meaning) (f : Sent) (free : Free) (old : List ℕ) (r : Result Reply Fault) (n : Meaning) (new : List ℕ) : Type 0 where
+pub record Taken (m : Meaning) (f : Sent) (free : Free) (old : List ℕ) (r : Result Reply (Fault ℕ)) (n : Meaning) (new : List ℕ) : Type 0 where
   pub allowed : Allowed m.state free
   pub part : SamePart m n
   pub state : n.state ≡ after m.kind m.state f free
@@ -269,9 +269,9 @@ pub record Taken (m : Meaning) (f : Sent) (free : Free) (old : List ℕ) (r : Re
   pub buffer : Filled m.kind m.state n.state f n.byte old new
 
 -- a frame sent after a gap: refused with nothing changed, or taken
-abbrev pub Judged : Option Refusal → Meaning → Sent → List ℕ → Result Reply Fault → Meaning → List ℕ → Type 0
+abbrev pub Judged : Option Refusal → Meaning → Sent → List ℕ → Result Reply (Fault ℕ) → Meaning → List ℕ → Type 0
 Judged (Some e) m f old r n new = (r ≡ Err (fault_at e (place f))) × (n ≡ m) × (new ≡ old)
 Judged None m f old r n new = (free : Free) × Taken m f free old r n new
 
-pub record Sends (m : Meaning) (gap : ℕ) (f : Sent) (old : List ℕ) (r : Result Reply Fault) (n : Meaning) (new : List ℕ) : Type 0 where
+pub record Sends (m : Meaning) (gap : ℕ) (f : Sent) (old : List ℕ) (r : Result Reply (Fault ℕ)) (n : Meaning) (new : List ℕ) : Type 0 where
   pub judged : Judged (refused m.kind m.state gap f) m f old r n new

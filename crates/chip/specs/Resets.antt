@@ -39,9 +39,9 @@ pub record Restarted (m : Meaning) (strobe : Bool) (n : Meaning) : Type 0 where
   pub part : SamePart m n
   pub state : n.state ≡ after_pulse m.kind m.state strobe
 
-abbrev pub ResetJudged : Option Refusal → Meaning → Result (Unit {0}) Fault → Meaning → Type 0
+abbrev pub ResetJudged : Option Refusal → Meaning → Result (Unit {0}) (Fault ℕ) → Meaning → Type 0
 ResetJudged (Some e) m r n = (r ≡ Err (fault_at e 0)) × (n ≡ m)
 ResetJudged None m r n = (r ≡ Ok tt) × ((strobe : Bool) × Restarted m strobe n)
 
-pub record Resets (m : Meaning) (pulse : ℕ) (r : Result (Unit {0}) Fault) (n : Meaning) : Type 0 where
+pub record Resets (m : Meaning) (pulse : ℕ) (r : Result (Unit {0}) (Fault ℕ)) (n : Meaning) : Type 0 where
   pub judged : ResetJudged (reset_refused m.kind m.state pulse) m r n

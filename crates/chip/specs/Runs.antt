@@ -15,8 +15,8 @@ use Rattle.chip.specs.declared.parts.Reply.{Reply}
 -- a frame sent after a gap, with the buffer before it, the answer and the buffer after it; or a reset by a pulse, with
 -- the answer
 pub data Event : Type 0 where
-  sending : ℕ → Sent → List ℕ → Result Reply Fault → List ℕ → Event
-  resetting : ℕ → Result (Unit {0}) Fault → Event
+  sending : ℕ → Sent → List ℕ → Result Reply (Fault ℕ) → List ℕ → Event
+  resetting : ℕ → Result (Unit {0}) (Fault ℕ) → Event
 
 -- what an event does to a chip
 abbrev pub Does : Meaning → Event → Meaning → Type 0
@@ -128,11 +128,11 @@ CountsRiseByWhatWasSent =
 -- ---- what is refused leaves everything
 
 -- the fault of an event, if it has one
-abbrev pub err : {A : Type 0} → Result A Fault → Option Fault
+abbrev pub err : {A : Type 0} → Result A (Fault ℕ) → Option (Fault ℕ)
 err (Ok x) = None
 err (Err e) = Some e
 
-abbrev pub fault_of : Event → Option Fault
+abbrev pub fault_of : Event → Option (Fault ℕ)
 fault_of (sending gap f old r new) = err r
 fault_of (resetting pulse r) = err r
 
@@ -149,7 +149,7 @@ BufferStays (resetting pulse r) = Unit {0}
 pub record RefusedLeaves (m : Meaning) (e : Event) (n : Meaning) : Type 0 where
   pub answer : (x : Refusal) → refusal m e ≡ Some x → (fault_of e ≡ Some (fault_at x (place_of e))) × (13 ≤ (account x).number) × ((account x).number ≤ 18)
   pub by_test : (x : Refusal) → refusal m e ≡ Some x → (n ≡ m) × BufferStays e
-  pub by_answer : (x : Fault) → fault_of e ≡ Some x → (account x.refusal).number ≤ 18 → (n ≡ m) × BufferStays e
+  pub by_answer : (x : Fault ℕ) → fault_of e ≡ Some x → (account x.refusal).number ≤ 18 → (n ≡ m) × BufferStays e
 
 -- of each event of every run
 abbrev pub RefusedLeavesEverything : Type 0

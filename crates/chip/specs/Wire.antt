@@ -66,7 +66,7 @@ TakenHasOpening =
 -- what one frame may do, another may
 abbrev pub DoesTheSame : Sent → Sent → Type 0
 DoesTheSame f g =
-    (m n : Meaning) (gap : ℕ) (old new : List ℕ) (r : Result Reply Fault) → Sends m gap f old r n new → Sends m gap g old r n new
+    (m n : Meaning) (gap : ℕ) (old new : List ℕ) (r : Result Reply (Fault ℕ)) → Sends m gap f old r n new → Sends m gap g old r n new
 
 -- only what is on the wire counts
 pub record SameOnTheWire : Type 0 where

@@ -1,56 +1,32 @@
 // One frame sent, with its low clocks, and the opening bytes of a frame; the laws of whole runs.
 ghost use Rattle.std.specs.Prelude.{◌≡◌, ℕ, length};
 ghost use Rattle.chip.specs.Exchanges.{low_by_answer, Exchanged};
-ghost use Rattle.chip.specs.Frames.{sent, Sends};
-ghost use Rattle.chip.specs.Runs.{sending, CountsFit, ChangedByWritesOnly, CountsRiseByWhatWasSent, RefusedLeavesEverything, StrobeReturnsByResetAlone, PartNeverChanges};
+ghost use Rattle.chip.specs.Frames.{sent, place};
+ghost use Rattle.chip.specs.Runs.{sending, ChangedByWritesOnly, CountsRiseByWhatWasSent, RefusedLeavesEverything, StrobeReturnsByResetAlone, PartNeverChanges};
 ghost use Rattle.chip.specs.Wire.{command_of_frame, address_of_frame, opening_of_frame, Decodes, TakenHasOpening, SameOnTheWire};
 
 use crate::interface::Chip;
 use crate::parts::{Frame, Reply};
-use fault::Fault;
+use fault::{Fault, Refusal};
 use frame::{Burst, Command};
 
 // What came of one frame.
+#[derive(Clone, Copy, Debug, PartialEq, Eq)]
 pub struct Outcome {
     pub answer: Result<Reply, Fault>,
-    // the clocks that CE# was low: 0 where the frame was refused
+    // the clocks that CE# was low: 0 where the frame was refused, as it is counted
     pub low: u64,
 }
 
-// How long CE# was low for a frame with this answer. A read without the strobe (19) was sent;
-// what was refused was not.
-fn low_clocks(answer: &Result<Reply, Fault>, latest: u64) -> u64
-    ensures { result ≡ low_by_answer answer.now latest }
+// How long CE# was low for a frame with this answer. A read without the strobe was sent; what was
+// refused was not.
+fn low_clocks(answer: Result<Reply, Fault>, latest: u64) -> u64
+    ensures { result ≡ low_by_answer answer latest }
 {
-    match answer {
-        Ok(_) => latest,
-        Err(fault) => {
-            if fault.refusal.account().number == 19 {
-                latest
-            } else {
-                0
-            }
-        }
+    match answer.map_err(|fault| fault.refusal) {
+        Ok(_) | Err(Refusal::NoStrobe(_)) => latest,
+        Err(_) => 0,
     }
-}
-
-// The latest low clocks.
-fn latest<C: Chip>(chip: &C) -> u64
-    ensures value { result ≡ (C.Chip.meaning chip.now).state.low }
-    ensures fit { CountsFit (C.Chip.meaning chip.now) }
-{
-    chip.state().low
-}
-
-// Sends one frame, and then asks for its low clocks.
-fn timed<C: Chip>(chip: &mut C, gap: u32, frame: Frame<'_>, buffer: &mut [u8]) -> Outcome
-    ensures sends { Sends (C.Chip.meaning chip.old) gap (sent frame.entry (length buffer.old)) buffer.old result.answer (C.Chip.meaning chip.new) buffer.new }
-    ensures low { result.low ≡ low_by_answer result.answer (C.Chip.meaning chip.new).state.low }
-    ensures fit { CountsFit (C.Chip.meaning chip.new) }
-{
-    let answer = chip.send(gap, frame, buffer);
-    let low = low_clocks(&answer, latest(chip));
-    Outcome { answer, low }
 }
 
 // Sends one frame after a gap, and says how long CE# was low: one step of a run. The last five
@@ -63,39 +39,53 @@ pub fn exchange<C: Chip>(chip: &mut C, gap: u32, frame: Frame<'_>, buffer: &mut 
     ensures strobe_returns_by_reset_alone { StrobeReturnsByResetAlone }
     ensures part_never_changes { PartNeverChanges }
 {
-    timed(chip, gap, frame, buffer)
+    let answer = chip.send(gap, frame, buffer);
+    let low = low_clocks(answer, chip.state().low);
+    Outcome { answer, low }
 }
 
-// The command of a frame, and the address that its opening bytes carry.
-fn command(frame: Frame<'_>) -> (Command, u32)
-    ensures { (n : ℕ) → result ≡ (command_of_frame (sent frame.entry n), address_of_frame (sent frame.entry n)) }
-{
-    match frame {
-        Frame::Read {
-            burst: Burst::Linear,
-            start,
-        } => (Command::LinearRead, start),
-        Frame::Read { start, .. } => (Command::Read, start),
-        Frame::Write {
-            burst: Burst::Linear,
-            start,
-            ..
-        } => (Command::LinearWrite, start),
-        Frame::Write { start, .. } => (Command::Write, start),
-        Frame::RegisterRead { number } => (Command::RegisterRead, u32::from(number)),
-        Frame::RegisterWrite { number, .. } => (Command::RegisterWrite, u32::from(number)),
-        Frame::GlobalReset => (Command::GlobalReset, 0),
+impl Frame<'_> {
+    // The place of a fault: the start of a memory frame, else 0.
+    pub fn place(self) -> u32
+        ensures { (n : ℕ) → result ≡ place (sent self.entry n) }
+    {
+        match self {
+            Frame::Read { start, .. } | Frame::Write { start, .. } => start,
+            Frame::RegisterRead { .. } | Frame::RegisterWrite { .. } | Frame::GlobalReset => 0,
+        }
     }
-}
 
-// The five bytes that open a frame on the wire. None where the start does not fit; no chip takes
-// such a frame.
-pub fn opening(frame: Frame<'_>) -> Option<[u8; 5]>
-    ensures value { (n : ℕ) → result ≡ opening_of_frame (sent frame.entry n) }
-    ensures decodes { (n : ℕ) → Decodes result (command_of_frame (sent frame.entry n)) (address_of_frame (sent frame.entry n)) }
-    ensures taken_has_opening { TakenHasOpening }
-    ensures same_on_the_wire { SameOnTheWire }
-{
-    let (command, address) = command(frame);
-    command.opening(address)
+    // The command of this frame, and the address that its opening bytes carry.
+    fn command(self) -> (Command, u32)
+        ensures { (n : ℕ) → result ≡ (command_of_frame (sent self.entry n), address_of_frame (sent self.entry n)) }
+    {
+        match self {
+            Frame::Read {
+                burst: Burst::Linear,
+                start,
+            } => (Command::LinearRead, start),
+            Frame::Read { start, .. } => (Command::Read, start),
+            Frame::Write {
+                burst: Burst::Linear,
+                start,
+                ..
+            } => (Command::LinearWrite, start),
+            Frame::Write { start, .. } => (Command::Write, start),
+            Frame::RegisterRead { number } => (Command::RegisterRead, u32::from(number)),
+            Frame::RegisterWrite { number, .. } => (Command::RegisterWrite, u32::from(number)),
+            Frame::GlobalReset => (Command::GlobalReset, 0),
+        }
+    }
+
+    // The five bytes that open this frame on the wire. None where the start does not fit; no chip
+    // takes such a frame.
+    pub fn opening(self) -> Option<[u8; 5]>
+        ensures value { (n : ℕ) → result ≡ opening_of_frame (sent self.entry n) }
+        ensures decodes { (n : ℕ) → Decodes result (command_of_frame (sent self.entry n)) (address_of_frame (sent self.entry n)) }
+        ensures taken_has_opening { TakenHasOpening }
+        ensures same_on_the_wire { SameOnTheWire }
+    {
+        let (command, address) = self.command();
+        command.opening(address)
+    }
 }

@@ -7,5 +7,5 @@ mod laws;
 mod parts;
 
 pub use interface::Chip;
-pub use laws::{Outcome, exchange, opening};
+pub use laws::{Outcome, exchange};
 pub use parts::{Frame, Kind, Phase, Reply, State};

@@ -3,7 +3,7 @@ use clock::Clock;
 use frame::{Burst, Make};
 
 // What never changes: the make, the size in pages, the clock numbers.
-#[derive(Clone, Copy)]
+#[derive(Clone, Copy, Debug, PartialEq, Eq)]
 pub struct Kind {
     pub make: Make,
     pub pages: u32,
@@ -11,14 +11,14 @@ pub struct Kind {
 }
 
 // A chip takes only a global reset until it is woken, and then everything else.
-#[derive(Clone, Copy)]
+#[derive(Clone, Copy, Debug, PartialEq, Eq)]
 pub enum Phase {
     Unwoken,
     Awake,
 }
 
 // What changes, apart from the bytes.
-#[derive(Clone, Copy)]
+#[derive(Clone, Copy, Debug, PartialEq, Eq)]
 pub struct State {
     pub mr0: u8,
     pub mr4: u8,
@@ -35,8 +35,9 @@ pub struct State {
     pub clocks: u64,
 }
 
-// One frame. A read has as many bytes as the buffer that it fills.
-#[derive(Clone, Copy)]
+// One frame. A read has as many bytes as the buffer that it fills. A register goes by its number: the
+// wire carries any byte as one, and 18 refuses those that are none.
+#[derive(Clone, Copy, Debug, PartialEq, Eq)]
 pub enum Frame<'a> {
     Read {
         burst: Burst,
@@ -58,8 +59,9 @@ pub enum Frame<'a> {
     GlobalReset,
 }
 
-// What a frame that was taken answers.
-#[derive(Clone, Copy)]
+// What a frame that was taken answers. No `Option`: to answer nothing and to answer a register are
+// two kinds of frames, and nothing is ever missing.
+#[derive(Clone, Copy, Debug, PartialEq, Eq)]
 pub enum Reply {
     Done,
     Register(u8),

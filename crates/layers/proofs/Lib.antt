@@ -1,4 +1,3 @@
-pub mod Tests
 pub mod Windows
 pub mod Scramblers
 pub mod Stacks

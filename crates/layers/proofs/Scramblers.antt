@@ -1,5 +1,5 @@
 -- A scrambler over a chip is a chip. Assumes nothing.
-use Rattle.std.proofs.Common.{◌≡◌, ℕ, zero, suc, ◌%◌, ◌<◌, ◌≤◌, Bool, true, false, cond, not, ◌&&◌, ◌||◌, eqb, ltb, ◌⊎◌, List, [], ◌∷◌, length, get_or, Some, None, Ok, Err, MatchBool, Option, Result, sym, refl, ap, ◌∙◌, subst, inl, inr, arith}
+use Rattle.std.proofs.Common.{◌≡◌, ℕ, zero, suc, ◌%◌, ◌<◌, ◌≤◌, Bool, true, false, cond, not, ◌&&◌, ◌||◌, eqb, ltb, List, [], ◌∷◌, length, get_or, Some, None, Ok, Err, MatchBool, Option, Result, sym, refl, ap, ◌∙◌, subst, arith}
 use lib.Bits.{bit_xor, xor_assoc, xor_self, xor_zero_r}
 use Rattle.std.proofs.lemmas.Bool.{and_parts, eqb-true, lt-ltb}
 use Rattle.std.proofs.lemmas.Bool.Decides.{when_true, when_false}
@@ -27,7 +27,6 @@ use Rattle.chip.specs.declared.parts.Kind.{Kind}
 use Rattle.chip.specs.declared.parts.Reply.{Reply}
 use Rattle.chip.specs.declared.parts.Reply.TheVariants.{Done}
 use Rattle.chip.specs.declared.parts.State.{State}
-use Rattle.layers.specs.declared.scrambler.Course.{Course}
 use Rattle.layers.specs.Scramblers.{key_at, scrambler, Combined}
 
 -- ---- bytes
@@ -88,7 +87,7 @@ after_mixed key k s (register_read n) free = refl
 after_mixed key k s (register_write n v) free = refl
 after_mixed key k s global_reset free = refl
 
-module _ (key : List ℕ) (m n : Meaning) (g f : Sent) (stands : Stands key m g f) (old mid new : List ℕ) (r : Result Reply Fault) where
+module _ (key : List ℕ) (m n : Meaning) (g f : Sent) (stands : Stands key m g f) (old mid new : List ℕ) (r : Result Reply (Fault ℕ)) where
   taken_above : (free : Free) → Filled m.kind m.state n.state f (scrambler key n).byte old new → Taken m g free old r n mid → Taken (scrambler key m) f (free_mixed key free) old r (scrambler key n) new
   unfolding free_mixed
   taken_above free full t = record {
@@ -114,10 +113,12 @@ Straight (register_read n) = Unit {0}
 Straight (register_write n v) = Unit {0}
 Straight global_reset = Unit {0}
 
-pub straight_frame : (f : Frame) (n : ℕ) → ((k : ℕ) × (f ≡ frame.RegisterRead k)) ⊎ (((k : ℕ) × (v : ℕ) × (f ≡ frame.RegisterWrite k v)) ⊎ (f ≡ frame.GlobalReset)) → Straight (sent f n)
-straight_frame f n (inl (k, is)) = subst (λ x. Straight (sent x n)) (sym is) tt
-straight_frame f n (inr (inl (k, v, is))) = subst (λ x. Straight (sent x n)) (sym is) tt
-straight_frame f n (inr (inr is)) = subst (λ x. Straight (sent x n)) (sym is) tt
+pub straight_frame : (f : Frame) (n : ℕ) → ((b : _) (a : _) → f ≡ frame.Read b a → ⊥) → ((b : _) (a : _) (d : _) (k : _) → f ≡ frame.Write b a d k → ⊥) → Straight (sent f n)
+straight_frame (frame.Read b a) n no_read no_write = no_read b a refl
+straight_frame (frame.Write b a d k) n no_read no_write = no_write b a d k refl
+straight_frame (frame.RegisterRead k) n no_read no_write = tt
+straight_frame (frame.RegisterWrite k v) n no_read no_write = tt
+straight_frame frame.GlobalReset n no_read no_write = tt
 
 stands_straight : (key : List ℕ) (m : Meaning) (f : Sent) → Straight f → Stands key m f f
 stands_straight key m (read b a n) is = absurd is
@@ -133,7 +134,7 @@ straight_filled k s t (register_read n) byte over old new is full = full
 straight_filled k s t (register_write n v) byte over old new is full = full
 straight_filled k s t global_reset byte over old new is full = full
 
-module _ (key : List ℕ) (m n : Meaning) (f : Sent) (is : Straight f) (old new : List ℕ) (r : Result Reply Fault) where
+module _ (key : List ℕ) (m n : Meaning) (f : Sent) (is : Straight f) (old new : List ℕ) (r : Result Reply (Fault ℕ)) where
   straight_judged : (o : Option Refusal) → Judged o m f old r n new → Judged o (scrambler key m) f old r (scrambler key n) new
   straight_judged (Some e) judged = refused_above key m n f f (stands_straight key m f is) old new new r e judged
   straight_judged None (free, t) = (
@@ -152,16 +153,13 @@ stands_read : (key : List ℕ) (m : Meaning) (b : Burst) (a n : ℕ) → Stands 
 stands_read key m b a n = record { leaves = λ _. refl; stores = λ _ _. refl; keeps = λ _ _. refl; answers = λ _. refl; placed = refl }
 
 -- the answer to a read tells whether the strobe came
-pub strobe_there : (b : Bool) (x y : Reply) (e : Fault) → Ok x ≡ cond b (Ok y) (Err e) → b ≡ true
+pub strobe_there : (b : Bool) (x y : Reply) (e : Fault ℕ) → Ok x ≡ cond b (Ok y) (Err e) → b ≡ true
 strobe_there true x y e is = refl
-strobe_there false x y e is = let z : ◌≡◌ {A = ℕ} 0 1 = cc in absurd (omega arith)
+strobe_there false x y e is = cc
 
-strobe_gone : (b : Bool) (y : Reply) (d e : Fault) → Err d ≡ cond b (Ok y) (Err e) → b ≡ false
-strobe_gone true y d e is = let z : ◌≡◌ {A = ℕ} 0 1 = cc in absurd (omega arith)
+strobe_gone : (b : Bool) (y : Reply) (d e : Fault ℕ) → Err d ≡ cond b (Ok y) (Err e) → b ≡ false
+strobe_gone true y d e is = cc
 strobe_gone false y d e is = refl
-
-pub never_refused : (x : Reply) (e : Fault) → ◌≡◌ {A = Result Reply Fault} (Ok x) (Err e) → ⊥
-never_refused x e is = let z : ◌≡◌ {A = ℕ} 0 1 = cc in omega arith
 
 -- what stands where a test holds, and where it does not
 when_is_true : (P Q : Type 0) (b : Bool) → b ≡ true → P → MatchBool b P Q
@@ -176,17 +174,19 @@ filled_mixed key p byte old mid new is (long, each) =
     (is.long ∙ long, λ i inside. is.each i (omega arith) ∙ ap (λ x. bit_xor x (key_at key (p i))) (each i inside))
 
 module _ (key : List ℕ) (m n : Meaning) (b : Burst) (a : ℕ) (old mid : List ℕ) where
-  read_answered : (new : List ℕ) (o : Option Refusal) (x : Reply) → Combined key (address m.kind m.state b a) mid new → Judged o m (read b a (length old)) old (Ok x) n mid → Judged o (scrambler key m) (read b a (length old)) old (Ok x) (scrambler key n) new
-  read_answered new (Some e) x is (answer, _, _) = absurd (never_refused x _ answer)
+  -- the burst is combined after the read, which leaves make and MR8
+  read_answered : (new : List ℕ) (o : Option Refusal) (x : Reply) → Combined key (address n.kind n.state b a) mid new → Judged o m (read b a (length old)) old (Ok x) n mid → Judged o (scrambler key m) (read b a (length old)) old (Ok x) (scrambler key n) new
+  read_answered new (Some e) x is (answer, _, _) = cc
   read_answered new None x is (free, t) =
-      let there = strobe_there n.state.strobe x Done _ t.answer in (
+      let there = strobe_there n.state.strobe x Done _ t.answer in
+      let before = subst (λ (p : ℕ → ℕ). Combined key p mid new) (λ j i. at (t.part.kind j).make (on_wire b (t.state j).mr8) a i) is in (
         free_mixed key free,
         taken_above key m n (read b a (length old)) (read b a (length old)) (stands_read key m b a (length old)) old mid new (Ok x) free
-            (when_is_true _ _ n.state.strobe there (filled_mixed key (address m.kind m.state b a) n.byte old mid new is (when_true _ _ there t.buffer)))
+            (when_is_true _ _ n.state.strobe there (filled_mixed key (address m.kind m.state b a) n.byte old mid new before (when_true _ _ there t.buffer)))
             t,
       )
 
-  read_faulted : (o : Option Refusal) (d : Fault) → Judged o m (read b a (length old)) old (Err d) n mid → Judged o (scrambler key m) (read b a (length old)) old (Err d) (scrambler key n) mid
+  read_faulted : (o : Option Refusal) (d : Fault ℕ) → Judged o m (read b a (length old)) old (Err d) n mid → Judged o (scrambler key m) (read b a (length old)) old (Err d) (scrambler key n) mid
   read_faulted (Some e) d judged = refused_above key m n _ _ (stands_read key m b a (length old)) old mid mid (Err d) e judged
   read_faulted None d (free, t) =
       let gone = strobe_gone n.state.strobe Done d _ t.answer in (
@@ -196,24 +196,19 @@ module _ (key : List ℕ) (m n : Meaning) (b : Burst) (a : ℕ) (old mid : List 
             t,
       )
 
--- the same of what the code works out: the frame that goes down, the fault that comes back, and the course of the burst
-module _ (key : List ℕ) (m n : Meaning) (gap : ℕ) (below : Sent) (b : Burst) (a : ℕ) (old mid : List ℕ) (below_is : below ≡ read b a (length old)) where
-  pub answered : (new : List ℕ) (x : Reply) → Combined key (address m.kind m.state b a) mid new → Sends m gap below old (Ok x) n mid → Sends (scrambler key m) gap (read b a (length old)) old (Ok x) (scrambler key n) new
+-- the same of a frame that is known to be a read
+module _ (key : List ℕ) (m n : Meaning) (gap : ℕ) (f : Sent) (b : Burst) (a : ℕ) (old mid : List ℕ) (read_is : f ≡ read b a (length old)) where
+  pub answered : (new : List ℕ) (x : Reply) → Combined key (address n.kind n.state b a) mid new → Sends m gap f old (Ok x) n mid → Sends (scrambler key m) gap f old (Ok x) (scrambler key n) new
   answered new x is sends =
-      let at_read = subst (λ g. Sends m gap g old (Ok x) n mid) below_is sends in
+      let at_read = subst (λ g. Sends m gap g old (Ok x) n mid) read_is sends in
+      subst (λ g. Sends (scrambler key m) gap g old (Ok x) (scrambler key n) new) (sym read_is)
       record { judged = read_answered key m n b a old mid new (refused m.kind m.state gap (read b a (length old))) x is at_read.judged }
 
-  pub faulted : (r : Result Reply Fault) (d : Fault) → r ≡ Err d → Sends m gap below old (Err d) n mid → Sends (scrambler key m) gap (read b a (length old)) old r (scrambler key n) mid
+  pub faulted : (r : Result Reply (Fault ℕ)) (d : Fault ℕ) → r ≡ Err d → Sends m gap f old (Err d) n mid → Sends (scrambler key m) gap f old r (scrambler key n) mid
   faulted r d r_is sends =
-      let at_read = subst (λ g. Sends m gap g old (Err d) n mid) below_is sends in
-      subst (λ x. Sends (scrambler key m) gap (read b a (length old)) old x (scrambler key n) mid) (sym r_is)
+      let at_read = subst (λ g. Sends m gap g old (Err d) n mid) read_is sends in
+      rw (r_is, read_is)
       record { judged = read_faulted key m n b a old mid (refused m.kind m.state gap (read b a (length old))) d at_read.judged }
-
--- a burst, or its copy, is combined along its course
-pub along : (c : Course) (key : List ℕ) (m : Meaning) (b : Burst) (a : ℕ) (copy plain mixed : List ℕ) → c.key ≡ key → c.make ≡ m.kind.make → c.burst ≡ on_wire b m.state.mr8 → c.start ≡ a → copy ≡ plain → Combined c.key (at c.make c.burst c.start) copy mixed → Combined key (address m.kind m.state b a) plain mixed
-along c key m b a copy plain mixed key_is make_is burst_is start_is copy_is is =
-    subst (λ x. Combined key (address m.kind m.state b a) x mixed) copy_is
-    (subst (λ (x : Course). Combined x.key (at x.make x.burst x.start) copy mixed) (λ i. record { key = key_is i; make = make_is i; burst = burst_is i; start = start_is i }) is)
 
 -- ---- a write
 
@@ -234,17 +229,23 @@ module _ (key : List ℕ) (m : Meaning) (b : Burst) (a : ℕ) (plain mixed mask 
     placed = refl;
   }
 
-  write_judged : (n : Meaning) (old new : List ℕ) (r : Result Reply Fault) (o : Option Refusal) → Judged o m (write b a mixed mask) old r n new → Judged o (scrambler key m) (write b a plain mask) old r (scrambler key n) new
+  write_judged : (n : Meaning) (old new : List ℕ) (r : Result Reply (Fault ℕ)) (o : Option Refusal) → Judged o m (write b a mixed mask) old r n new → Judged o (scrambler key m) (write b a plain mask) old r (scrambler key n) new
   write_judged n old new r (Some e) judged = refused_above key m n _ _ stands_write old new new r e judged
   write_judged n old new r None (free, t) =
       (free_mixed key free, taken_above key m n _ _ stands_write old new new r free t.buffer t)
 
-  pub sends_write : (n : Meaning) (gap : ℕ) (old new : List ℕ) (r : Result Reply Fault) → Sends m gap (write b a mixed mask) old r n new → Sends (scrambler key m) gap (write b a plain mask) old r (scrambler key n) new
-  sends_write n gap old new r below = record {
+  write_sends : (n : Meaning) (gap : ℕ) (old new : List ℕ) (r : Result Reply (Fault ℕ)) → Sends m gap (write b a mixed mask) old r n new → Sends (scrambler key m) gap (write b a plain mask) old r (scrambler key n) new
+  write_sends n gap old new r below = record {
     judged =
         write_judged n old new r (refused m.kind m.state gap (write b a plain mask))
         (subst (λ o. Judged o m (write b a mixed mask) old r n new) (refused_by_length m.kind m.state gap b a plain mixed mask is.long) below.judged);
   }
+
+-- the same of a frame that is known to be a write, whose data are combined in a copy
+pub sends_write : (key : List ℕ) (m n : Meaning) (gap : ℕ) (f : Sent) (b : Burst) (a : ℕ) (plain copy mixed mask old new : List ℕ) (r : Result Reply (Fault ℕ)) → f ≡ write b a plain mask → copy ≡ plain → Combined key (address m.kind m.state b a) copy mixed → Sends m gap (write b a mixed mask) old r n new → Sends (scrambler key m) gap f old r (scrambler key n) new
+sends_write key m n gap f b a plain copy mixed mask old new r write_is copy_is is below =
+    let combined = subst (λ x. Combined key (address m.kind m.state b a) x mixed) copy_is is in
+    rw write_is (write_sends key m b a plain mixed mask combined n gap old new r below)
 
 -- ---- a write that is too long for any chip
 
@@ -273,18 +274,19 @@ some_first false r rest some = some
 here_first : (t : Bool) (r : Refusal) (rest : List (Bool × Refusal)) → t ≡ true → (e : Refusal) × (first ((t, r) ∷ rest) ≡ Some e)
 unfolding first
 here_first true r rest is = (r, refl)
-here_first false r rest is = let z : ◌≡◌ {A = ℕ} 0 1 = cc in absurd (omega arith)
+here_first false r rest is = cc
 
 -- whatever the tests before it say
 long_refused : (k : Kind) (s : State) (gap : ℕ) (b : Burst) (a : ℕ) (d mask : List ℕ) → 1052 < length d → (e : Refusal) × (refused k s gap (write b a d mask) ≡ Some e)
 long_refused k s gap b a d mask h =
     some_first _ _ _ (some_first _ _ _ (some_first _ _ _ (some_first _ _ _ (here_first _ _ _ (low_too_long k.clock (write_latency s) (length d) h)))))
 
-pub sends_long : (key : List ℕ) (m n : Meaning) (gap : ℕ) (b : Burst) (a : ℕ) (d mask old new : List ℕ) (r : Result Reply Fault) → 1052 < length d → Sends m gap (write b a d mask) old r n new → Sends (scrambler key m) gap (write b a d mask) old r (scrambler key n) new
-sends_long key m n gap b a d mask old new r h below =
-    let (e, is) = long_refused m.kind m.state gap b a d mask h in
-    let (answer, same, buffer) = subst (λ o. Judged o m (write b a d mask) old r n new) is below.judged in
+pub sends_long : (key : List ℕ) (m n : Meaning) (gap : ℕ) (f : Sent) (b : Burst) (a : ℕ) (d mask old new : List ℕ) (r : Result Reply (Fault ℕ)) → f ≡ write b a d mask → 1052 < length d → Sends m gap f old r n new → Sends (scrambler key m) gap f old r (scrambler key n) new
+sends_long key m n gap f b a d mask old new r write_is h below =
+    let (e, refused_is) = long_refused m.kind m.state gap b a d mask h in
+    let is : refused m.kind m.state gap f ≡ Some e = ap (refused m.kind m.state gap) write_is ∙ refused_is in
+    let (answer, same, buffer) = subst (λ o. Judged o m f old r n new) is below.judged in
     record {
       judged =
-          subst (λ o. Judged o (scrambler key m) (write b a d mask) old r (scrambler key n) new) (sym is) (answer, ap (scrambler key) same, buffer);
+          subst (λ o. Judged o (scrambler key m) f old r (scrambler key n) new) (sym is) (answer, ap (scrambler key) same, buffer);
     }

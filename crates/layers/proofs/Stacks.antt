@@ -13,7 +13,7 @@ use Rattle.chip.specs.declared.parts.Reply.TheVariants.{Done}
 use Rattle.layers.specs.Scramblers.{key_at}
 use Rattle.layers.specs.Stacks.{stack, LastAt, WrittenComesBack}
 use Rattle.layers.specs.Windows.{shift}
-use Rattle.layers.proofs.Scramblers.{twice, never_refused, strobe_there}
+use Rattle.layers.proofs.Scramblers.{twice, strobe_there}
 use Rattle.layers.specs.LawfulWindows.{lawful_window}
 
 -- of the bytes that go to an address, the last unmasked one stays
@@ -35,7 +35,7 @@ written_last place d k i x old here plain (suc n) inside last =
 
 -- a frame that is answered was taken
 taken : (m n : Meaning) (f : Sent) (old new : List ℕ) (x : Reply) (o : Option Refusal) → Judged o m f old (Ok x) n new → (free : Free) × Taken m f free old (Ok x) n new
-taken m n f old new x (Some e) (answer, _, _) = absurd (never_refused x _ answer)
+taken m n f old new x (Some e) (answer, _, _) = cc
 taken m n f old new x None judged = judged
 
 -- a read that is answered gives the bytes before it, where they are held over it

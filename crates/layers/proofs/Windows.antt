@@ -1,8 +1,9 @@
 -- A window over a chip is a chip. Assumes nothing.
-use Rattle.std.specs.Prelude.{◌≡◌, ℕ, zero, suc, ◌+◌, ◌-◌, ◌*◌, ◌%◌, ◌^◌, ◌<◌, ◌≤◌, Bool, true, false, cond, not, ◌&&◌, ◌||◌, leb, List, [], ◌∷◌, length, Some, None, Ok, Err, Decides, MatchBool, Option, Result, ◌==◌, nat_eq, nat_le, nat_lt, slice_index, refl}
-use Rattle.std.proofs.Common.{sym, ap, subst, ◌∙◌, ⊎_elim, arith}
+use Rattle.std.specs.Prelude.{◌≡◌, ℕ, zero, suc, ◌+◌, ◌-◌, ◌*◌, ◌%◌, ◌^◌, ◌<◌, ◌≤◌, Bool, true, false, cond, not, ◌&&◌, ◌||◌, leb, List, [], ◌∷◌, length, Some, None, Ok, Err, Decides, MatchBool, MatchResult, IsErrAnd, Option, Result, ◌==◌, nat_eq, nat_le, nat_lt, slice_index, refl}
+use Rattle.std.proofs.Common.{Bor, sym, ap, subst, ◌∙◌, ⊎_elim, arith}
 use Rattle.std.proofs.lemmas.Bool.{cases_lt, or_parts, or_right, leb-false, le-leb, lt-leb}
 use Rattle.std.proofs.lemmas.Bool.Decides.{nat_tests}
+use Rattle.std.proofs.lemmas.Result.{err_from_is_err_and}
 use Rattle.frame.specs.Bursts.{at}
 use Rattle.frame.specs.Pages.{page}
 use Rattle.frame.specs.declared.burst.Block.TheVariants.{Bytes16, Bytes32, Bytes64, Page}
@@ -15,22 +16,24 @@ use Rattle.fault.specs.declared.Fault.{Fault}
 use Rattle.fault.specs.declared.Refusal.{Refusal}
 use Rattle.fault.specs.declared.Refusal.TheVariants.{WrongPhase, TooSoon, BadStart, BadCount, TooLong, BadRegister, NoStrobe}
 use Rattle.register.specs.declared.fields.Coverage.{Coverage}
-use Rattle.chip.specs.Frames.{Sent, read, write, register_read, register_write, global_reset, place, takes, least_gap, bad_start, bad_count, too_long, first, refused, Free, after, address, written, stored, holds, register, reply, Filled, Taken, Judged, Sends}
+use Rattle.chip.specs.Frames.{Sent, read, write, register_read, register_write, global_reset, sent, place, takes, least_gap, bad_start, bad_count, too_long, first, refused, Free, after, address, written, stored, holds, register, reply, Filled, Taken, Judged, Sends}
 use Rattle.mask.specs.Masks.{masked}
 use Rattle.register.specs.Registers.{on_wire}
 use Rattle.chip.specs.Meaning.{Meaning, Lawful, size, largest_size}
+use Rattle.chip.specs.declared.parts.Frame.{Frame}
+use Rattle.chip.specs.declared.parts.Frame.TheVariants as frame
 use Rattle.chip.specs.declared.parts.Kind.{Kind}
 use Rattle.chip.specs.declared.parts.Reply.{Reply}
 use Rattle.chip.specs.declared.parts.Reply.TheVariants.{Done, Register}
 use Rattle.chip.specs.declared.parts.State.{State}
+use Rattle.chip.proofs.Tests.{good_start}
 use Rattle.layers.specs.LawfulWindows.{parts}
 use Rattle.layers.specs.Windows.{hides, shift, window_kind, window, placed, moved, lowered}
-use Rattle.layers.proofs.Tests.{good_start}
 
 -- ---- numbers
 
 -- the burst of a start that is moved by whole pages is the burst, moved
-pub address_moved : (m : Make) (b : Burst) (s q i : ℕ) → at m b (s + q * page m) i ≡ at m b s i + q * page m
+address_moved : (m : Make) (b : Burst) (s q i : ℕ) → at m b (s + q * page m) i ≡ at m b s i + q * page m
 address_moved make.A Linear s q i = omega arith
 address_moved make.S Linear s q i = omega arith
 address_moved make.A (Wrapped Bytes16) s q i = omega arith
@@ -72,7 +75,7 @@ some_page make.A = omega arith
 some_page make.S = omega arith
 
 -- a range of addresses, moved
-pub range_moved : (h : ℕ) (m : Meaning) (c : Coverage) (from count : ℕ) → Lawful m → ((a : ℕ) → moved (shift h m.kind) from ≤ a → a < moved (shift h m.kind) from + count → m.refreshes c a ≡ true) → (a : ℕ) → from ≤ a → a < from + count → m.refreshes c (a + shift h m.kind) ≡ true
+range_moved : (h : ℕ) (m : Meaning) (c : Coverage) (from count : ℕ) → Lawful m → ((a : ℕ) → moved (shift h m.kind) from ≤ a → a < moved (shift h m.kind) from + count → m.refreshes c a ≡ true) → (a : ℕ) → from ≤ a → a < from + count → m.refreshes c (a + shift h m.kind) ≡ true
 range_moved h m c from count law below a low high =
     ⊎_elim
     (λ fits. below (a + shift h m.kind) (omega arith) (omega arith))
@@ -81,7 +84,7 @@ range_moved h m c from count law below a low high =
     absurd (omega (arith, law.most)))
     (cases_lt (from + shift h m.kind) (2 ^ 32))
 
-pub range_back : (h : ℕ) (m : Meaning) (c : Coverage) (from count : ℕ) → Lawful m → ((a : ℕ) → from ≤ a → a < from + count → m.refreshes c (a + shift h m.kind) ≡ true) → (a : ℕ) → moved (shift h m.kind) from ≤ a → a < moved (shift h m.kind) from + count → m.refreshes c a ≡ true
+range_back : (h : ℕ) (m : Meaning) (c : Coverage) (from count : ℕ) → Lawful m → ((a : ℕ) → from ≤ a → a < from + count → m.refreshes c (a + shift h m.kind) ≡ true) → (a : ℕ) → moved (shift h m.kind) from ≤ a → a < moved (shift h m.kind) from + count → m.refreshes c a ≡ true
 range_back h m c from count law above a low high =
     ⊎_elim
     (λ fits.
@@ -182,7 +185,7 @@ holds_below by r s t (register_write n v) x = refl
 holds_below by r s t global_reset x = refl
 
 -- a frame that is taken below is taken by the window
-taken_above : (h : ℕ) (m n : Meaning) (f : Sent) (free : Free) (old new : List ℕ) (r : Result Reply Fault) → Lawful m → bad_start (window_kind h m.kind) f ≡ false → Taken m (lowered (shift h m.kind) f) free old r n new → Taken (window h m) f (free_above (shift h m.kind) free) old (placed (place f) r) (window h n) new
+taken_above : (h : ℕ) (m n : Meaning) (f : Sent) (free : Free) (old new : List ℕ) (r : Result Reply (Fault ℕ)) → Lawful m → bad_start (window_kind h m.kind) f ≡ false → Taken m (lowered (shift h m.kind) f) free old r n new → Taken (window h m) f (free_above (shift h m.kind) free) old (placed (place f) r) (window h n) new
 unfolding free_above
 taken_above h m n f free old new r law good t =
     let by = shift h m.kind in
@@ -205,26 +208,39 @@ taken_above h m n f free old new r law good t =
     }
 
 -- a frame that is judged below is judged so by the window
-judged_above : (h : ℕ) (m n : Meaning) (f : Sent) (old new : List ℕ) (r : Result Reply Fault) (o : Option Refusal) → Lawful m → (o ≡ None → bad_start (window_kind h m.kind) f ≡ false) → Judged o m (lowered (shift h m.kind) f) old r n new → Judged o (window h m) f old (placed (place f) r) (window h n) new
+judged_above : (h : ℕ) (m n : Meaning) (f : Sent) (old new : List ℕ) (r : Result Reply (Fault ℕ)) (o : Option Refusal) → Lawful m → (o ≡ None → bad_start (window_kind h m.kind) f ≡ false) → Judged o m (lowered (shift h m.kind) f) old r n new → Judged o (window h m) f old (placed (place f) r) (window h n) new
 judged_above h m n f old new r (Some e) law good (a, b, c) = (ap (placed (place f)) a, ap (window h) b, c)
 judged_above h m n f old new r None law good (free, t) = (free_above (shift h m.kind) free, taken_above h m n f free old new r law (good refl) t)
 
-pub sends_above : (h gap : ℕ) (m n : Meaning) (f : Sent) (old new : List ℕ) (r : Result Reply Fault) → Lawful m → Sends m gap (lowered (shift h m.kind) f) old r n new → Sends (window h m) gap f old (placed (place f) r) (window h n) new
+sends_above : (h gap : ℕ) (m n : Meaning) (f : Sent) (old new : List ℕ) (r : Result Reply (Fault ℕ)) → Lawful m → Sends m gap (lowered (shift h m.kind) f) old r n new → Sends (window h m) gap f old (placed (place f) r) (window h n) new
 sends_above h gap m n f old new r law below = record {
   judged =
       judged_above h m n f old new r (refused (window_kind h m.kind) m.state gap f) law (good_start (window_kind h m.kind) m.state gap f)
       (subst (λ o. Judged o m (lowered (shift h m.kind) f) old r n new) (sym (refused_below h m.kind m.state law.most gap f)) below.judged);
 }
 
--- the same of what the code works out: the shift, the frame that goes down, and the fault that comes back
-module _ (h gap by : ℕ) (m n : Meaning) (f below : Sent) (old new : List ℕ) (law : Lawful m) (by_is : by ≡ shift h m.kind) (below_is : below ≡ lowered by f) where
-  went_down : (r : Result Reply Fault) → Sends m gap below old r n new → Sends (window h m) gap f old (placed (place f) r) (window h n) new
-  went_down r sends =
-      sends_above h gap m n f old new r law (subst (λ g. Sends m gap g old r n new) (below_is ∙ ap (λ x. lowered x f) by_is) sends)
+-- ---- the frame that goes down, and the answer that comes back
 
-  pub answered : (reply : Reply) → Sends m gap below old (Ok reply) n new → Sends (window h m) gap f old (Ok reply) (window h n) new
-  answered reply = went_down (Ok reply)
+pub read_down : (by : ℕ) (f below : Frame) (b : Burst) (a low n : ℕ) → f ≡ frame.Read b a → below ≡ frame.Read b low → low ≡ moved by a → sent below n ≡ lowered by (sent f n)
+read_down by f below b a low n is below_is low_is =
+    ap (λ x. sent x n) below_is ∙ ap (λ x. read b x n) low_is ∙ ap (λ x. lowered by (sent x n)) (sym is)
 
-  pub faulted : (fault back : Fault) (at : ℕ) → back ≡ fault_at fault.refusal at → at ≡ place f → Sends m gap below old (Err fault) n new → Sends (window h m) gap f old (Err back) (window h n) new
-  faulted fault back at back_is at_is sends =
-      subst (λ x. Sends (window h m) gap f old (Err x) (window h n) new) (sym (back_is ∙ ap (fault_at fault.refusal) at_is)) (went_down (Err fault) sends)
+pub write_down : (by : ℕ) (f below : Frame) (b : Burst) (a low n : ℕ) (d k : Bor (List ℕ)) → f ≡ frame.Write b a d k → below ≡ frame.Write b low d k → low ≡ moved by a → sent below n ≡ lowered by (sent f n)
+write_down by f below b a low n d k is below_is low_is =
+    ap (λ x. sent x n) below_is ∙ ap (λ x. write b x d.now k.now) low_is ∙ ap (λ x. lowered by (sent x n)) (sym is)
+
+pub same_down : (by : ℕ) (f below : Frame) (n : ℕ) → below ≡ f → ((b : _) (a : _) → f ≡ frame.Read b a → ⊥) → ((b : _) (a : _) (d : _) (k : _) → f ≡ frame.Write b a d k → ⊥) → sent below n ≡ lowered by (sent f n)
+same_down by (frame.Read b a) below n is no_read no_write = absurd (no_read b a refl)
+same_down by (frame.Write b a d k) below n is no_read no_write = absurd (no_write b a d k refl)
+same_down by (frame.RegisterRead k) below n is no_read no_write = ap (λ x. sent x n) is
+same_down by (frame.RegisterWrite k v) below n is no_read no_write = ap (λ x. sent x n) is
+same_down by frame.GlobalReset below n is no_read no_write = ap (λ x. sent x n) is
+
+pub placed_by : (Q : Fault ℕ → Fault ℕ → Type 0) (p : ℕ) (r back : Result Reply (Fault ℕ)) → ((d e : Fault ℕ) → Q d e → e ≡ fault_at d.refusal p) → MatchResult r (λ x. back ≡ Ok x) (λ d. IsErrAnd back (Q d)) → back ≡ placed p r
+placed_by Q p (Ok x) back is told = told
+placed_by Q p (Err d) back is told =
+    let (e, back_is, q) = err_from_is_err_and back told in back_is ∙ ap (λ x. Err x) (is d e q)
+
+pub sends_down : (h gap : ℕ) (m n : Meaning) (f below : Sent) (old new : List ℕ) (r back : Result Reply (Fault ℕ)) → Lawful m → below ≡ lowered (shift h m.kind) f → back ≡ placed (place f) r → Sends m gap below old r n new → Sends (window h m) gap f old back (window h n) new
+sends_down h gap m n f below old new r back law below_is back_is sends =
+    rw back_is (sends_above h gap m n f old new r law (subst (λ g. Sends m gap g old r n new) below_is sends))

@@ -28,7 +28,7 @@ window hidden m = record {
 }
 
 -- a fault names the place as it was called on the layer
-abbrev pub placed : {X : Type 0} → ℕ → Result X Fault → Result X Fault
+abbrev pub placed : {X : Type 0} → ℕ → Result X (Fault ℕ) → Result X (Fault ℕ)
 placed p (Ok x) = Ok x
 placed p (Err f) = Err (fault_at f.refusal p)
 

@@ -6,4 +6,4 @@ mod stack;
 mod window;
 
 pub use scrambler::Scrambler;
-pub use window::{Returned, Window};
+pub use window::Window;

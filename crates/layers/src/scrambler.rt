@@ -1,50 +1,21 @@
 // A scrambler combines every byte with the key byte of its address.
-ghost use Rattle.std.specs.Prelude.{◌≡◌, ℕ, length};
-ghost use Rattle.chip.specs.Frames.{sent, read, write, Sends};
-ghost use Rattle.frame.specs.Bursts.{at};
-ghost use Rattle.register.specs.Registers.{on_wire};
+ghost use Rattle.std.specs.Prelude.{◌≡◌};
+ghost use Rattle.chip.specs.Frames.{address};
 ghost use Rattle.layers.specs.Scramblers.{scrambler, key_at, Combined};
 ghost use Rattle.std.proofs.Common.{rules};
 
 use chip::{Chip, Frame, Kind, Reply, State};
 use fault::Fault;
-use frame::{Burst, Make};
+use frame::Burst;
 use register::{Coverage, on_wire};
 
 // The most bytes of a write that any chip takes: 2 (532 - 3 - 3).
 const LONGEST: usize = 1_052;
 
+#[derive(Drop)]
 pub struct Scrambler<C> {
-    chip: C,
+    pub(crate) chip: C,
     key: [u8; 16],
-}
-
-// Where the bytes of a memory frame lie, and the key.
-#[derive(Clone, Copy)]
-struct Course {
-    key: [u8; 16],
-    make: Make,
-    burst: Burst,
-    start: u32,
-}
-
-impl Course {
-    // The key byte of byte `i` of the burst.
-    fn key_byte(&self, i: usize) -> u8
-        ensures { result ≡ key_at self.now.key (at self.now.make self.now.burst self.now.start i) }
-    {
-        let address = self.burst.address(self.make, self.start, i);
-        self.key[address as usize % 16]
-    }
-
-    // Combines each byte of the burst with the key byte of its own address.
-    fn combine(&self, bytes: &mut [u8])
-        ensures { Combined self.now.key (at self.now.make self.now.burst self.now.start) bytes.old bytes.new }
-    {
-        for i in 0..bytes.len() {
-            bytes[i] ^= self.key_byte(i);
-        }
-    }
 }
 
 impl<C: Chip> Scrambler<C> {
@@ -60,15 +31,7 @@ impl<C: Chip> Scrambler<C> {
     pub fn into_chip(self) -> C
         ensures { result ≡ self.chip }
     {
-        let Scrambler { chip, key: _ } = self;
-        chip
-    }
-
-    // The chip below, to ask it.
-    pub(crate) fn chip(&self) -> &C
-        ensures { result.now ≡ self.now.chip }
-    {
-        &self.chip
+        self.chip
     }
 
     // The key byte of an address.
@@ -78,90 +41,15 @@ impl<C: Chip> Scrambler<C> {
         self.key[(address % 16) as usize]
     }
 
-    // Where the bytes of a frame lie that is sent now: the chip goes by its MR8.
-    fn course(&self, burst: Burst, start: u32) -> Course
-        ensures key { result.key ≡ self.now.key }
-        ensures make { result.make ≡ (C.Chip.meaning self.now.chip).kind.make }
-        ensures burst { result.burst ≡ on_wire burst (C.Chip.meaning self.now.chip).state.mr8 }
-        ensures start { result.start ≡ start }
+    // Combines each byte of a burst with the key byte of its own address. The chip goes by its MR8.
+    fn combine(&self, burst: Burst, start: u32, bytes: &mut [u8])
+        ensures { Combined self.now.key (address (C.Chip.meaning self.now.chip).kind (C.Chip.meaning self.now.chip).state burst start) bytes.old bytes.new }
     {
-        Course {
-            key: self.key,
-            make: self.chip.kind().make,
-            burst: on_wire(burst, self.chip.state().mr8),
-            start,
+        let make = self.chip.kind().make;
+        let burst = on_wire(burst, self.chip.state().mr8);
+        for (i, byte) in bytes.iter_mut().enumerate() {
+            *byte ^= self.key_byte(burst.address(make, start, i));
         }
-    }
-
-    fn read(
-        &mut self,
-        gap: u32,
-        burst: Burst,
-        start: u32,
-        buffer: &mut [u8],
-    ) -> Result<Reply, Fault>
-        ensures { Sends (scrambler self.old.key (C.Chip.meaning self.old.chip)) gap (read burst start (length buffer.old)) buffer.old result (scrambler self.new.key (C.Chip.meaning self.new.chip)) buffer.new }
-    {
-        let course = self.course(burst, start);
-        let reply = self.chip.send(gap, read_frame(burst, start), buffer)?;
-        course.combine(buffer);
-        Ok(reply)
-    }
-
-    fn write<'x>(
-        &mut self,
-        gap: u32,
-        burst: Burst,
-        start: u32,
-        data: &'x [u8],
-        mask: &'x [u8],
-        buffer: &mut [u8],
-    ) -> Result<Reply, Fault>
-        ensures { Sends (scrambler self.old.key (C.Chip.meaning self.old.chip)) gap (write burst start «data».now mask.now) buffer.old result (scrambler self.new.key (C.Chip.meaning self.new.chip)) buffer.new }
-    {
-        let length = data.len();
-        if length > LONGEST {
-            // no chip takes so much: it is refused below as it stands
-            return send_write(&mut self.chip, gap, burst, start, data, mask, buffer);
-        }
-        let course = self.course(burst, start);
-        let mut scratch = [0; LONGEST];
-        let mixed = &mut scratch[0..length];
-        mixed.copy_from_slice(data);
-        course.combine(mixed);
-        send_write(&mut self.chip, gap, burst, start, mixed, mask, buffer)
-    }
-}
-
-// Sends a write frame.
-fn send_write<'x, C: Chip>(
-    chip: &mut C,
-    gap: u32,
-    burst: Burst,
-    start: u32,
-    data: &'x [u8],
-    mask: &'x [u8],
-    buffer: &mut [u8],
-) -> Result<Reply, Fault>
-    ensures { Sends (C.Chip.meaning chip.old) gap (write burst start «data».now mask.now) buffer.old result (C.Chip.meaning chip.new) buffer.new }
-{
-    chip.send(gap, write_frame(burst, start, data, mask), buffer)
-}
-
-fn read_frame(burst: Burst, start: u32) -> Frame<'static>
-    ensures { (n : ℕ) → sent result n ≡ read burst start n }
-{
-    Frame::Read { burst, start }
-}
-
-fn write_frame<'a>(burst: Burst, start: u32, data: &'a [u8], mask: &'a [u8]) -> Frame<'a>
-    ensures { (n : ℕ) → sent result n ≡ write burst start «data».now mask.now }
-{
-    Frame::Write {
-        burst,
-        start,
-        data,
-        mask,
     }
 }
 
@@ -184,16 +72,32 @@ impl<C: Chip> Chip for Scrambler<C> {
 
     fn send(&mut self, gap: u32, frame: Frame<'_>, buffer: &mut [u8]) -> Result<Reply, Fault> {
         match frame {
-            Frame::Read { burst, start } => self.read(gap, burst, start, buffer),
+            Frame::Read { burst, start } => {
+                let reply = self.chip.send(gap, frame, buffer)?;
+                self.combine(burst, start, buffer);
+                Ok(reply)
+            }
             Frame::Write {
                 burst,
                 start,
                 data,
                 mask,
-            } => self.write(gap, burst, start, data, mask, buffer),
-            Frame::RegisterRead { .. } | Frame::RegisterWrite { .. } | Frame::GlobalReset => self
-                .chip
-                .send(gap, frame, buffer),
+            } if data.len() <= LONGEST => {
+                // no heap: the data are combined in a buffer of a fixed size
+                let mut scratch = [0; LONGEST];
+                let mixed = &mut scratch[..data.len()];
+                mixed.copy_from_slice(data);
+                self.combine(burst, start, mixed);
+                let below = Frame::Write {
+                    burst,
+                    start,
+                    data: mixed,
+                    mask,
+                };
+                self.chip.send(gap, below, buffer)
+            }
+            // no chip takes a longer write: it is refused below as it stands
+            _ => self.chip.send(gap, frame, buffer),
         }
     }
 

@@ -1,35 +1,29 @@
 // A window hides the first pages of the chip below.
-ghost use Rattle.std.specs.Prelude.{◌≡◌, ℕ, ◌<◌, ◌≤◌, MatchResult};
+ghost use Rattle.std.specs.Prelude.{◌≡◌, ◌<◌, ◌≤◌, MatchResult};
 ghost use Rattle.fault.specs.Refusals.{fault_at};
 ghost use Rattle.fault.specs.declared.Refusal.TheVariants.{WindowTooLarge};
-ghost use Rattle.chip.specs.Frames.{sent, place};
-ghost use Rattle.layers.specs.Windows.{window, shift, lowered};
+ghost use Rattle.layers.specs.Windows.{window, shift};
 ghost use Rattle.layers.specs.LawfulWindows.{lawful_window};
 
 use chip::{Chip, Frame, Kind, Reply, State};
-use fault::{Fault, Refusal};
+use fault::{Fault, Refusal, Returned};
 use register::Coverage;
 
+#[derive(Drop)]
 pub struct Window<C> {
     chip: C,
     hidden: u32,
 }
 
-// A refusal that gives the chip back.
-pub struct Returned<C> {
-    pub fault: Fault,
-    pub chip: C,
-}
-
 impl<C: Chip> Window<C> {
     // A window that hides the first `hidden` pages; 20 where no page would be left to see.
     pub fn new(chip: C, hidden: u32) -> Result<Window<C>, Returned<C>>
-        ensures { MatchResult result (λ w. (hidden < (C.Chip.meaning chip).kind.pages) × (w.chip ≡ chip) × (w.hidden ≡ hidden)) (λ e. ((C.Chip.meaning chip).kind.pages ≤ hidden) × (e.fault ≡ fault_at WindowTooLarge 0) × (e.chip ≡ chip)) }
+        ensures { MatchResult result (λ w. (hidden < (C.Chip.meaning chip).kind.pages) × (w.chip ≡ chip) × (w.hidden ≡ hidden)) (λ e. ((C.Chip.meaning chip).kind.pages ≤ hidden) × (e.fault ≡ fault_at WindowTooLarge 0) × (e.value ≡ chip)) }
     {
         if hidden >= chip.kind().pages {
             return Err(Returned {
                 fault: Refusal::WindowTooLarge.at(0),
-                chip,
+                value: chip,
             });
         }
         Ok(Window { chip, hidden })
@@ -39,8 +33,7 @@ impl<C: Chip> Window<C> {
     pub fn into_chip(self) -> C
         ensures { result ≡ self.chip }
     {
-        let Window { chip, hidden: _ } = self;
-        chip
+        self.chip
     }
 
     // How far the addresses are moved.
@@ -60,9 +53,8 @@ impl<C: Chip> Chip for Window<C> {
     fn kind(&self) -> Kind {
         let kind = self.chip.kind();
         Kind {
-            make: kind.make,
             pages: kind.pages - self.hidden.min(kind.pages - 1),
-            clock: kind.clock,
+            ..kind
         }
     }
 
@@ -77,45 +69,31 @@ impl<C: Chip> Chip for Window<C> {
 
     fn send(&mut self, gap: u32, frame: Frame<'_>, buffer: &mut [u8]) -> Result<Reply, Fault> {
         let shift = self.shift();
-        let (place, below) = lower(frame, shift);
-        match self.chip.send(gap, below, buffer) {
-            Ok(reply) => Ok(reply),
-            Err(fault) => Err(fault.refusal.at(place)),
-        }
-    }
-
-    fn reset(&mut self, pulse: u32) -> Result<(), Fault> {
-        self.chip.reset(pulse)
-    }
-}
-
-// The place of a frame as it is called, and the frame as it goes down.
-fn lower(frame: Frame<'_>, shift: u32) -> (u32, Frame<'_>)
-    ensures place { (n : ℕ) → result.0 ≡ place (sent frame.entry n) }
-    ensures down { (n : ℕ) → sent result.1 n ≡ lowered shift (sent frame.entry n) }
-{
-    match frame {
-        Frame::Read { burst, start } => {
-            let down = Frame::Read {
+        let place = frame.place();
+        let below = match frame {
+            Frame::Read { burst, start } => Frame::Read {
                 burst,
                 start: start.saturating_add(shift),
-            };
-            (start, down)
-        }
-        Frame::Write {
-            burst,
-            start,
-            data,
-            mask,
-        } => {
-            let down = Frame::Write {
+            },
+            Frame::Write {
+                burst,
+                start,
+                data,
+                mask,
+            } => Frame::Write {
                 burst,
                 start: start.saturating_add(shift),
                 data,
                 mask,
-            };
-            (start, down)
-        }
-        Frame::RegisterRead { .. } | Frame::RegisterWrite { .. } | Frame::GlobalReset => (0, frame),
+            },
+            _ => frame,
+        };
+        self.chip
+            .send(gap, below, buffer)
+            .map_err(|fault| fault.refusal.at(place))
+    }
+
+    fn reset(&mut self, pulse: u32) -> Result<(), Fault> {
+        self.chip.reset(pulse)
     }
 }

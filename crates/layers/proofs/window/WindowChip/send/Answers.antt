@@ -1,13 +1,21 @@
-use Rattle.std.proofs.Common.{length}
-use Rattle.layers.proofs.Windows.{answered, faulted}
+use Rattle.std.proofs.Common.{◌≡◌, length, ap, ◌∙◌, rules}
+use Rattle.chip.specs.Frames.{sent}
+use Rattle.layers.specs.Windows.{shift, moved, lowered, placed}
+use Rattle.layers.proofs.Windows.{read_down, write_down, same_down, placed_by, sends_down}
 use Rattle.layers.proofs.window.WindowChip.send.Goals as goal
+use Rattle.layers.proofs.window.WindowChip.send.Goals.{in-Read, in-Write, in_default}
 
-pub returns-in-Ok : goal.returns-in-Ok
-returns-in-Ok g c =
+pub returns : goal.returns
+returns g c =
+    let w = c.args.self.now in
+    let m = g.C.Chip.meaning w.chip in
+    let f = c.args.frame in
     let n = length c.args.buffer.now in
-    answered _ _ _ _ _ _ _ _ _ (g.met.C.Chip.lawful c.args.self.now.chip) c.shift-shift.ensures (c.lower-place.ensures.down n) _ c.in-Ok.ensures
-
-pub returns-in-Err : goal.returns-in-Err
-returns-in-Err g c =
-    let n = length c.args.buffer.now in
-    faulted _ _ _ _ _ _ _ _ _ (g.met.C.Chip.lawful c.args.self.now.chip) c.shift-shift.ensures (c.lower-place.ensures.down n) _ _ _ c.at.ensures (c.lower-place.ensures.place n) c.in-Err.ensures
+    let by = shift w.hidden m.kind in
+    let below_is : sent c.match-frame.below n ≡ lowered by (sent f n) =
+    elim c.match-frame.branch [
+      | in-Read w ↦ read_down by f _ _ w.in-Read.start _ n w.in-Read.is w.below-is (w.saturating_add.ensures ∙ ap (λ x. moved x w.in-Read.start) c.shift-shift.ensures)
+      | in-Write w ↦ write_down by f _ _ w.in-Write.start _ n _ _ w.in-Write.is w.below-is (w.saturating_add-in-Write.ensures ∙ ap (λ x. moved x w.in-Write.start) c.shift-shift.ensures)
+      | in_default w ↦ same_down by f _ n w.below-is w.in_default.not-Read w.in_default.not-Write
+    ] in
+    sends_down w.hidden c.args.gap m _ (sent f n) _ _ _ _ _ (g.met.C.Chip.lawful w.chip) below_is (placed_by _ _ _ _ (λ d e post. search rules) c.map_err.ensures.cases ∙ ap (λ p. placed p c.send.result) (c.place-place.ensures n)) c.send.ensures

@@ -2,9 +2,9 @@ use Rattle.std.proofs.Common.{◌≡◌, ℕ, ◌<◌, ◌≤◌, get_or}
 use lib.Bits.{bit_xor}
 use Rattle.frame.specs.Bursts.{at}
 use Rattle.layers.specs.Scramblers.{key_at}
-use Rattle.layers.proofs.scrambler.Course.combine.Given as goal
+use Rattle.layers.proofs.scrambler.Scrambler.combine.Given as goal
 
 abbrev pub invariant-loop-i : goal.invariant-loop-i
-invariant-loop-i l =
-    ((k : ℕ) → k < l.i → get_or l.bytes k 0 ≡ bit_xor (get_or l.initial.bytes k 0) (key_at l.self.key (at l.self.make l.self.burst l.self.start k)))
+invariant-loop-i g l =
+    ((k : ℕ) → k < l.i → get_or l.bytes k 0 ≡ bit_xor (get_or l.initial.bytes k 0) (key_at l.self.key (at l.make l.burst l.start k)))
     × ((k : ℕ) → l.i ≤ k → get_or l.bytes k 0 ≡ get_or l.initial.bytes k 0)
