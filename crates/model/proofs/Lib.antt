@@ -1,4 +1,2 @@
-pub mod Stores
-pub mod Arms
 pub mod Ranges
 pub mod IsChip

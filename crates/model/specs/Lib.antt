@@ -1,3 +1,4 @@
 pub mod Models
 pub mod Fresh
 pub mod Wins
+pub mod Sents

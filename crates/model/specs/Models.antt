@@ -1,13 +1,15 @@
 -- What a model does, exactly. Assumes nothing.
-use Rattle.std.specs.Prelude.{◌≡◌, ℕ, zero, suc, ◌+◌, ◌-◌, ◌*◌, ◌/◌, ◌%◌, ◌^◌, min, Bool, true, cond, not, ◌&&◌, ◌||◌, List, [], map, length, Some, None, Ok, Err, vec_items, Option, Result, ◌==◌, nat_le, nat_lt, slice_index, slice_set}
+use Rattle.std.specs.Prelude.{◌≡◌, ℕ, zero, suc, ◌+◌, ◌-◌, ◌*◌, ◌/◌, ◌%◌, ◌^◌, min, Bool, true, cond, not, ◌&&◌, ◌||◌, List, [], ◌∷◌, map, length, Some, None, Ok, Err, vec_items, Option, Result, ◌==◌, nat_le, nat_lt, slice_index, slice_set}
 use Rattle.std.specs.List.{range_with_len}
 use Rattle.clock.specs.Times.{clocks}
 use Rattle.fault.specs.Refusals.{fault_at}
 use Rattle.fault.specs.declared.Fault.{Fault}
 use Rattle.fault.specs.declared.Refusal.{Refusal}
+use Rattle.fault.specs.declared.Refusal.TheVariants.{TooSoon, BadStart, BadCount, TooLong, BadRegister}
+use Rattle.frame.specs.Low as low
 use Rattle.mask.specs.Masks.{masked}
 use Rattle.register.specs.Registers.{mr0, kept}
-use Rattle.chip.specs.Frames.{Sent, read, write, register_read, register_write, global_reset, place, refused, fixed, Free, after, address, reply}
+use Rattle.chip.specs.Frames.{Sent, read, write, register_read, register_write, global_reset, place, carries, least_gap, bad_start, bad_count, too_long, bad_register, first, refused, fixed, Free, after, address, reply}
 use Rattle.chip.specs.Meaning.{Meaning, size, read_latency}
 use Rattle.chip.specs.Resets.{reset_refused, after_pulse}
 use Rattle.chip.specs.declared.parts.Kind.{Kind}
@@ -110,6 +112,22 @@ answered_after m global_reset = 0
 
 -- ---- one frame
 
+-- 14 to 18, in this order: what refuses a frame that the phase takes
+abbrev pub unfit : Kind → State → ℕ → Sent → Option Refusal
+unfit k s gap f =
+    first (
+    (nat_lt gap (least_gap k s), TooSoon)
+    ∷ (bad_start k f, BadStart)
+    ∷ (bad_count f, BadCount)
+    ∷ (too_long k s f, TooLong)
+    ∷ (bad_register f, BadRegister)
+    ∷ []
+    )
+
+-- the low clocks of a frame that is taken
+abbrev pub low_clocks : Model → Sent → ℕ
+low_clocks m f = low.low_clocks (carries m.state f (latency m))
+
 abbrev pub taken : Model → Sent → Model
 taken m f = record {
   kind = m.kind;
@@ -132,7 +150,7 @@ buffer_after m global_reset old = old
 -- what comes of a frame: the model, the answer and the buffer
 pub record Outcome : Type 0 where
   pub model : Model
-  pub answer : Result Reply Fault
+  pub answer : Result Reply (Fault ℕ)
   pub buffer : List ℕ
 
 abbrev pub judged : Option Refusal → Model → Sent → List ℕ → Outcome
@@ -147,15 +165,10 @@ abbrev pub step : Model → ℕ → Sent → List ℕ → Outcome
 step m gap f old = judged (refused m.kind m.state gap f) m f old
 
 -- the model, the answer and the buffer are those of the step
-pub record Steps (m : Model) (gap : ℕ) (f : Sent) (old : List ℕ) (r : Result Reply Fault) (n : Model) (new : List ℕ) : Type 0 where
+pub record Steps (m : Model) (gap : ℕ) (f : Sent) (old : List ℕ) (r : Result Reply (Fault ℕ)) (n : Model) (new : List ℕ) : Type 0 where
   pub model : n ≡ (step m gap f old).model
   pub answer : r ≡ (step m gap f old).answer
   pub buffer : new ≡ (step m gap f old).buffer
-
--- the same of a frame that leaves the buffer alone
-pub record Moves (m : Model) (gap : ℕ) (f : Sent) (r : Result Reply Fault) (n : Model) : Type 0 where
-  pub model : n ≡ (step m gap f []).model
-  pub answer : r ≡ (step m gap f []).answer
 
 -- ---- a reset
 
@@ -172,13 +185,13 @@ restarted m = record {
 }
 
 -- what comes of a reset: the model and the answer
-abbrev pub reset_judged : Option Refusal → Model → (Model × Result (Unit {0}) Fault)
+abbrev pub reset_judged : Option Refusal → Model → (Model × Result (Unit {0}) (Fault ℕ))
 reset_judged (Some e) m = (m, Err (fault_at e 0))
 reset_judged None m = (restarted m, Ok tt)
 
-abbrev pub reset_step : Model → ℕ → (Model × Result (Unit {0}) Fault)
+abbrev pub reset_step : Model → ℕ → (Model × Result (Unit {0}) (Fault ℕ))
 reset_step m pulse = reset_judged (reset_refused m.kind m.state pulse) m
 
-pub record Restarts (m : Model) (pulse : ℕ) (r : Result (Unit {0}) Fault) (n : Model) : Type 0 where
+pub record Restarts (m : Model) (pulse : ℕ) (r : Result (Unit {0}) (Fault ℕ)) (n : Model) : Type 0 where
   pub model : n ≡ (reset_step m pulse).0
   pub answer : r ≡ (reset_step m pulse).1

@@ -4,7 +4,8 @@ ghost use Rattle.chip.specs.Meaning.{size, largest_size};
 
 use chip::{Kind, State};
 
-// A chip over a store of its size. Both models are one of these.
+// A chip over a store of its size. Both models are one of these. Contracts see it by `inside`: with
+// an `impl Model`, the first three facts below would stand on `Model` once more, for a chip's law.
 #[derive(Drop)]
 pub struct Device {
     pub kind: Kind,

@@ -1,15 +1,12 @@
 // Models of the two makes of chip, over a store.
-#![tactic(auto)]
+#![tactic(auto, unfolding(chip::specs::Frames::first))]
 
 mod asks;
 mod device;
-mod frames;
+mod judge;
 mod make;
-mod model_a;
-mod model_s;
+mod models;
 mod step;
 mod whole;
 
-pub use make::Unmade;
-pub use model_a::ModelA;
-pub use model_s::ModelS;
+pub use models::{Model, ModelA, ModelS, Part, PartA, PartS};

@@ -1,23 +1,18 @@
 // Making a model over a store.
-ghost use Rattle.std.specs.Prelude.{◌≡◌, length, Some, None, MatchResult};
-ghost use Rattle.model.specs.Fresh.{bad_store, unmade, asleep, Fresh};
+ghost use Rattle.std.specs.Prelude.{◌≡◌, ◌/◌, length, Some, None, MatchResult};
+ghost use Rattle.clock.specs.Made.{For};
+ghost use Rattle.frame.specs.Pages.{page};
+ghost use Rattle.chip.specs.Frames.{reset_value};
+ghost use Rattle.model.specs.Fresh.{bad_store, unmade, asleep};
 
-use crate::device::Device;
-use crate::whole::reset_value;
 use chip::{Kind, Phase, State};
 use clock::{Clock, Range};
-use fault::{Fault, Refusal};
+use fault::Refusal;
 use frame::Make;
+use register::after_reset;
 
 // The largest chip: 16 MiB.
 const LARGEST: usize = 16 * 1_024 * 1_024;
-
-// A store that no model was made over.
-#[derive(Drop)]
-pub struct Unmade {
-    pub fault: Fault,
-    pub store: Vec<u8>,
-}
 
 // Whether a store is no whole number of pages, none, or above 16 MiB.
 fn bad_store(make: Make, length: usize) -> bool
@@ -26,8 +21,27 @@ fn bad_store(make: Make, length: usize) -> bool
     length == 0 || length % make.page() as usize != 0 || length > LARGEST
 }
 
+// What never changes of a model over so many bytes.
+pub(crate) fn kind(make: Make, length: usize, khz: u32, range: Range) -> Result<Kind, Refusal>
+    ensures { MatchResult result (λ k. (unmade make «length» khz range ≡ None) × (k.make ≡ make) × (k.pages ≡ length / page make) × For khz range k.clock) (λ e. unmade make «length» khz range ≡ Some e) }
+{
+    if bad_store(make, length) {
+        return Err(Refusal::BadSetup);
+    }
+    let clock = Clock::new(khz, range)?;
+    let pages = (length / make.page() as usize) as u32;
+    Ok(Kind { make, pages, clock })
+}
+
+// What a register holds after wake or reset. Any number may be asked for: the bus takes each byte.
+pub(crate) fn reset_value(make: Make, number: u8) -> u8
+    ensures { result ≡ reset_value make number }
+{
+    after_reset(make, number).unwrap_or(0)
+}
+
 // The state of a chip that is not woken yet.
-fn asleep(make: Make) -> State
+pub(crate) fn asleep(make: Make) -> State
     ensures { result ≡ asleep make }
 {
     State {
@@ -40,45 +54,5 @@ fn asleep(make: Make) -> State
         low: 0,
         frames: 0,
         clocks: 0,
-    }
-}
-
-impl Device {
-    // A model over a store, not woken yet. Refused by 1 where the store is not 1 page to 16 MiB of
-    // whole pages, then by 2 and 3 for the clock; the store comes back.
-    pub fn new(
-        make: Make,
-        store: Vec<u8>,
-        khz: u32,
-        range: Range,
-        word: u32,
-        strobes: u16,
-    ) -> Result<Device, Unmade>
-        ensures { MatchResult result (λ d. (unmade make (length store.items) khz range ≡ None) × Fresh make store.items khz range word strobes d) (λ u. (unmade make (length store.items) khz range ≡ Some u.fault.refusal) × (u.fault.place ≡ 0) × (u.store.items ≡ store.items)) }
-    {
-        let length = store.len();
-        if bad_store(make, length) {
-            let fault = Refusal::BadSetup.at(0);
-            return Err(Unmade { fault, store });
-        }
-        let pages = (length / make.page() as usize) as u32;
-        match Clock::new(khz, range) {
-            Ok(clock) => {
-                let kind = Kind { make, pages, clock };
-                Ok(Device {
-                    kind,
-                    state: asleep(make),
-                    store,
-                    word,
-                    strobes,
-                    turn: 0,
-                    answered: 0,
-                })
-            }
-            Err(refusal) => {
-                let fault = refusal.at(0);
-                Err(Unmade { fault, store })
-            }
-        }
     }
 }
