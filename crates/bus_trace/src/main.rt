@@ -7,9 +7,10 @@ mod trace;
 
 use chip::Chip;
 use clock::Range;
-use fault::Fault;
-use layers::{Returned, Scrambler, Window};
-use model::{ModelA, ModelS};
+use fault::{Fault, Returned};
+use layers::{Scrambler, Window};
+use model::{Model, Part, PartA, PartS};
+use std::alloc::AllocError;
 use std::io;
 use trace::trace;
 
@@ -25,59 +26,61 @@ const PAGES: usize = 4;
 
 const KEY: [u8; 16] = *b"0123456789@[]{}~";
 
-fn refused(rt: &HostRuntime, fault: Fault) -> io::Result<()> {
-    let number = fault.refusal.account().number;
-    println!(rt; "  refused by {number}")
+// Why the trace stops before its end. `refusal_table` has one like it: to share it the two would need a
+// crate, and one name for what a refusal means to each.
+enum Stop {
+    Refused(Fault),
+    Io(io::Error),
 }
 
-fn model_a(rt: &HostRuntime, stacked: bool) -> io::Result<()> {
-    let store = vec![in rt.alloc(); 0; PAGES * 1_024]?;
-    match ModelA::new(store, KHZ, Range::Normal, WORD, STROBES) {
-        Ok(model) => over(rt, model, stacked),
-        Err(unmade) => refused(rt, unmade.fault),
+impl<T: Drop> From<Returned<T>> for Stop {
+    fn from(back: Returned<T>) -> Stop {
+        Stop::Refused(back.fault)
     }
 }
 
-fn model_s(rt: &HostRuntime, stacked: bool) -> io::Result<()> {
-    let store = vec![in rt.alloc(); 0; PAGES * 2_048]?;
-    match ModelS::new(store, KHZ, Range::Normal, WORD, STROBES) {
-        Ok(model) => over(rt, model, stacked),
-        Err(unmade) => refused(rt, unmade.fault),
+impl From<io::Error> for Stop {
+    fn from(e: io::Error) -> Stop {
+        Stop::Io(e)
     }
 }
 
-// Traces the chip itself, or a scrambler over a window over it.
-fn over<C: Chip + Drop>(rt: &HostRuntime, chip: C, stacked: bool) -> io::Result<()> {
-    if stacked {
-        stack(rt, chip)
-    } else {
-        let mut chip = chip;
-        trace(rt, &mut chip)
+impl From<AllocError> for Stop {
+    fn from(e: AllocError) -> Stop {
+        Stop::Io(io::Error::from(e))
     }
 }
 
-fn stack<C: Chip + Drop>(rt: &HostRuntime, chip: C) -> io::Result<()> {
-    match Window::new(chip, 1) {
-        Ok(window) => {
-            let mut top = Scrambler::new(window, KEY);
-            let told = trace(rt, &mut top);
-            let _chip = top.into_chip().into_chip();
-            told
-        }
-        Err(returned) => {
-            let Returned { fault, chip: _ } = returned;
-            refused(rt, fault)
-        }
-    }
+// A model of a part.
+fn model<P: Part>(rt: &HostRuntime) -> Result<Model<P>, Stop> {
+    let store = vec![in rt.alloc(); 0; PAGES * P::MAKE.page() as usize]?;
+    Ok(Model::new(store, KHZ, Range::Normal, WORD, STROBES)?)
+}
+
+fn traces(rt: &HostRuntime) -> Result<(), Stop> {
+    println!(rt; "model A")?;
+    trace(rt, &mut model::<PartA>(rt)?)?;
+    println!(rt; "model S")?;
+    trace(rt, &mut model::<PartS>(rt)?)?;
+    println!(rt; "scrambler over a window over model A")?;
+    trace(
+        rt,
+        &mut Scrambler::over_window(model::<PartA>(rt)?, 1, KEY)?,
+    )?;
+    println!(rt; "scrambler over a window over model S")?;
+    trace(
+        rt,
+        &mut Scrambler::over_window(model::<PartS>(rt)?, 1, KEY)?,
+    )?;
+    Ok(())
 }
 
 fn main(rt: HostRuntime) -> io::Result<()> {
-    println!(rt; "model A")?;
-    model_a(&rt, false)?;
-    println!(rt; "model S")?;
-    model_s(&rt, false)?;
-    println!(rt; "scrambler over a window over model A")?;
-    model_a(&rt, true)?;
-    println!(rt; "scrambler over a window over model S")?;
-    model_s(&rt, true)
+    match traces(&rt) {
+        Ok(()) => Ok(()),
+        Err(Stop::Refused(fault)) => {
+            println!(rt; "  refused by {}", fault.refusal.account().number)
+        }
+        Err(Stop::Io(e)) => Err(e),
+    }
 }

@@ -1,121 +1,110 @@
 // The sequence of frames that is traced.
+use chip::Frame;
 use clock::Clock;
 use frame::{Block, Burst};
 use register::{Coverage, LatencyType, Line, Mr0, Mr4};
+use std::fmt;
 
 // MR8 for hybrid bursts with a block of 16 bytes.
 const HYBRID_16: u8 = 0x04;
 
-// What a write carries.
+// The data of a write, and their mask.
 #[derive(Clone, Copy)]
-pub enum Load {
-    // 24 bytes, some of them masked
-    Masked,
-    // 20 bytes, more than a block of 16
-    Long,
-    // 2 bytes
-    Pair,
+struct Load {
+    data: &'static [u8],
+    mask: &'static [u8],
 }
 
-static MASKED: [u8; 24] = *b"abcdefghijklmnopqrstuvwx";
+// 24 bytes, some of them masked.
+const MASKED: Load = Load {
+    data: b"abcdefghijklmnopqrstuvwx",
+    mask: &[0x81, 0x3c, 0x0f],
+};
 
-static MASKED_MASK: [u8; 3] = [0x81, 0x3c, 0x0f];
+// 20 bytes, more than a block of 16.
+const LONG: Load = Load {
+    data: b"ABCDEFGHIJKLMNOPQRST",
+    mask: &[0x00, 0x80, 0x04],
+};
 
-static LONG: [u8; 20] = *b"ABCDEFGHIJKLMNOPQRST";
+const PAIR: Load = Load {
+    data: b"+-",
+    mask: &[0x00],
+};
 
-static LONG_MASK: [u8; 3] = [0x00, 0x80, 0x04];
-
-static PAIR: [u8; 2] = *b"+-";
-
-static PAIR_MASK: [u8; 1] = [0x00];
-
-impl Load {
-    pub fn data(self) -> &'static [u8] {
-        match self {
-            Load::Masked => &MASKED,
-            Load::Long => &LONG,
-            Load::Pair => &PAIR,
-        }
-    }
-
-    pub fn mask(self) -> &'static [u8] {
-        match self {
-            Load::Masked => &MASKED_MASK,
-            Load::Long => &LONG_MASK,
-            Load::Pair => &PAIR_MASK,
-        }
-    }
-}
-
-// One frame, or a reset by a pulse.
 #[derive(Clone, Copy)]
-pub enum Action {
-    Read {
-        burst: Burst,
-        start: u32,
+pub enum Step {
+    // a frame after a gap of so many clocks; a read is of so many bytes
+    Send {
+        gap: u32,
+        frame: Frame<'static>,
         bytes: usize,
     },
-    Write {
-        burst: Burst,
-        start: u32,
-        load: Load,
-    },
-    RegisterRead(u8),
-    RegisterWrite(u8, u8),
-    Wake,
-    Pulse,
+    // a reset by a pulse of so many clocks
+    Pulse(u32),
 }
 
-// An action after a gap of so many clocks; of a pulse, its length.
-#[derive(Clone, Copy)]
-pub struct Step {
-    pub gap: u32,
-    pub action: Action,
+fn send(gap: u32, frame: Frame<'static>) -> Step {
+    Step::Send {
+        gap,
+        frame,
+        bytes: 0,
+    }
 }
 
 fn read(gap: u32, burst: Burst, start: u32, bytes: usize) -> Step {
-    Step {
+    Step::Send {
         gap,
-        action: Action::Read {
-            burst,
-            start,
-            bytes,
-        },
+        frame: Frame::Read { burst, start },
+        bytes,
     }
 }
 
 fn write(gap: u32, burst: Burst, start: u32, load: Load) -> Step {
-    Step {
-        gap,
-        action: Action::Write { burst, start, load },
-    }
+    let frame = Frame::Write {
+        burst,
+        start,
+        data: load.data,
+        mask: load.mask,
+    };
+    send(gap, frame)
 }
 
 fn register_read(gap: u32, number: u8) -> Step {
-    Step {
-        gap,
-        action: Action::RegisterRead(number),
-    }
+    send(gap, Frame::RegisterRead { number })
 }
 
 fn register_write(gap: u32, number: u8, value: u8) -> Step {
-    Step {
-        gap,
-        action: Action::RegisterWrite(number, value),
-    }
+    send(gap, Frame::RegisterWrite { number, value })
 }
 
 fn wake(gap: u32) -> Step {
-    Step {
-        gap,
-        action: Action::Wake,
-    }
+    send(gap, Frame::GlobalReset)
 }
 
-fn pulse(length: u32) -> Step {
-    Step {
-        gap: length,
-        action: Action::Pulse,
+// The opening bytes of a frame (shown as in `bus_sheet`: in `frame` these lines would have to
+// promise their bytes, which nothing else wants), its gap and what it carries, or the length of a pulse.
+impl fmt::Display for Step {
+    fn fmt<W: fmt::Write>(&self, f: &mut fmt::Formatter<W>) -> fmt::Result {
+        match *self {
+            Step::Send { gap, frame, bytes } => {
+                match frame.opening() {
+                    Some(bytes) => {
+                        let [code, a3, a2, a1, a0] = bytes;
+                        write!(f, "{code:02X} {a3:02X} {a2:02X} {a1:02X} {a0:02X}")?;
+                    }
+                    None => write!(f, "no frame")?,
+                }
+                write!(f, ", gap {gap}")?;
+                match frame {
+                    Frame::Read { .. } => write!(f, ", {bytes} bytes"),
+                    Frame::Write { data, .. } => write!(f, ", {} bytes", data.len()),
+                    Frame::RegisterWrite { value, .. } => write!(f, ", value {value:02X}"),
+                    Frame::RegisterRead { .. } | Frame::GlobalReset => Ok(()),
+                }
+            }
+            Step::Pulse(length) => write!(f, "pulse of {length}"),
+        }
     }
 }
 
@@ -140,10 +129,10 @@ pub fn bursts(clock: &Clock, page: u32) -> [Step; 9] {
     let wrapped = Burst::Wrapped(Block::Bytes16);
     let hybrid = Burst::Hybrid(Block::Bytes16);
     [
-        write(gap, Burst::Linear, edge, Load::Masked),
+        write(gap, Burst::Linear, edge, MASKED),
         read(gap, Burst::Linear, edge, 24),
         register_write(gap, 8, Line::Bytes16.mr8()),
-        write(gap, wrapped, 4, Load::Long),
+        write(gap, wrapped, 4, LONG),
         read(gap, wrapped, 8, 16),
         register_write(gap, 8, HYBRID_16),
         read(gap, hybrid, 2, 18),
@@ -177,10 +166,10 @@ pub fn losing(clock: &Clock) -> [Step; 9] {
     [
         read(gap, Burst::Linear, 0, 8),
         read(gap, Burst::Linear, 4, 8),
-        write(gap, Burst::Linear, 6, Load::Pair),
+        write(gap, Burst::Linear, 6, PAIR),
         register_read(gap, 0),
-        pulse(clock.trp.saturating_sub(1)),
-        pulse(clock.trp),
+        Step::Pulse(clock.trp.saturating_sub(1)),
+        Step::Pulse(clock.trp),
         read(clock.trst.saturating_sub(1), Burst::Linear, 0, 8),
         read(clock.trst, Burst::Linear, 0, 16),
         read(gap, reset_burst, 30, 6),

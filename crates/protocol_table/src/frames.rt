@@ -2,7 +2,7 @@
 use crate::items::{Item, shown};
 use crate::words::Word;
 use clock::Latency;
-use frame::{Burst, Command, Make, Transfer, low_clocks_of};
+use frame::{Command, Transfer, low_clocks_of};
 use std::alloc::Global;
 
 // The opening bytes of a command and an address.
@@ -20,10 +20,7 @@ pub fn opening(heap: Global, words: &[Word]) -> Option<String> {
 
 // The command and the address that five bytes open.
 pub fn opened(heap: Global, bytes: &[u8]) -> Option<String> {
-    let [first, a3, a2, a1, a0] = bytes else {
-        return None;
-    };
-    match Command::opened([*first, *a3, *a2, *a1, *a0]) {
+    match Command::opened(bytes.try_into().ok()?) {
         Some((command, address)) => {
             let code = Item::byte(command.code());
             shown(heap, &[code, Item::Number(address)])
@@ -53,22 +50,10 @@ pub fn burst(heap: Global, words: &[Word]) -> Option<String> {
     else {
         return None;
     };
-    addresses(heap, *make, *burst, *start, *first, *count)
-}
-
-fn addresses(
-    heap: Global,
-    make: Make,
-    burst: Burst,
-    start: u32,
-    first: u32,
-    count: u32,
-) -> Option<String> {
-    let mut items = Vec::new(heap);
-    for i in first..first.saturating_add(count) {
-        let address = burst.address(make, start, i as usize);
-        items.push(Item::Number(address)).ok()?;
-    }
+    let items: Vec<Item> = (*first..first.saturating_add(*count))
+        .map(|i| Item::Number(burst.address(*make, *start, i as usize)))
+        .collect(heap)
+        .ok()?;
     shown(heap, &items)
 }
 

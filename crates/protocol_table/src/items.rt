@@ -3,7 +3,7 @@ use std::alloc::Global;
 use std::fmt;
 use std::fmt::Write;
 
-#[derive(Clone, Copy)]
+#[derive(Clone, Copy, Debug, PartialEq, Eq)]
 pub enum Item {
     Number(u32),
     Long(u64),

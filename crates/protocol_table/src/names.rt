@@ -1,7 +1,7 @@
 // The names that the protocol's values have in a row.
 use crate::words::{Ask, Word};
 use clock::{Latency, Range};
-use fault::{Layer, Refusal};
+use fault::Refusal;
 use frame::{Block, Burst, Command, Make};
 use register::{Coverage, LatencyType, Line};
 
@@ -89,39 +89,12 @@ static NAMES: [(&str, Word); 76] = [
 
 // What has this name.
 pub fn named(text: &str) -> Option<Word> {
-    for (name, word) in &NAMES {
-        if *name == text {
-            return Some(*word);
-        }
-    }
-    None
+    let (_, word) = NAMES.iter().find(|(name, _)| *name == text)?;
+    Some(*word)
 }
 
-pub fn burst_name(burst: Burst) -> &'static str {
-    match burst {
-        Burst::Linear => "linear",
-        Burst::Wrapped(Block::Bytes16) => "wrapped-16",
-        Burst::Wrapped(Block::Bytes32) => "wrapped-32",
-        Burst::Wrapped(Block::Bytes64) => "wrapped-64",
-        Burst::Wrapped(Block::Page) => "wrapped-page",
-        Burst::Hybrid(Block::Bytes16) => "hybrid-16",
-        Burst::Hybrid(Block::Bytes32) => "hybrid-32",
-        Burst::Hybrid(Block::Bytes64) => "hybrid-64",
-        Burst::Hybrid(Block::Page) => "hybrid-page",
-    }
-}
-
-pub fn layer_name(layer: Layer) -> &'static str {
-    match layer {
-        Layer::Script => "script",
-        Layer::Port => "port",
-        Layer::Chip => "chip",
-    }
-}
-
-pub fn type_name(kind: LatencyType) -> &'static str {
-    match kind {
-        LatencyType::Variable => "variable",
-        LatencyType::Fixed => "fixed",
-    }
+// The name of what has one.
+pub fn name_of(word: Word) -> Option<&'static str> {
+    let (name, _) = NAMES.iter().find(|(_, named)| *named == word)?;
+    Some(*name)
 }

@@ -1,8 +1,9 @@
 // Rows on the mode registers.
 use crate::items::{Item, NONE, shown};
-use crate::names::{burst_name, type_name};
+use crate::names::name_of;
 use crate::words::{Word, clock_of};
-use register::{Kept, Mr0, Mr4, accepts, after_reset, mr8_burst, on_wire, readable, writable};
+use frame::Span;
+use register::{Mr0, Mr4, Mr8, accepts, after_reset, on_wire, readable, writable};
 use std::alloc::Global;
 
 // What a value means in MR0, MR4 and MR8; the coverage by what it keeps of eight addresses.
@@ -10,19 +11,19 @@ pub fn meaning(heap: Global, words: &[Word]) -> Option<String> {
     let [Word::Byte(value)] = words else {
         return None;
     };
-    let mr0 = Mr0::of(*value);
-    let mr4 = Mr4::of(*value);
+    let mr0 = Mr0::from(*value);
+    let mr4 = Mr4::from(*value);
     let kept = mr4.coverage.kept(8);
     shown(
         heap,
         &[
-            Item::Name(type_name(mr0.kind)),
+            Item::Name(name_of(Word::Type(mr0.kind))?),
             Item::Number(mr0.lc.clocks()),
             Item::byte(mr0.drive),
             Item::Number(mr4.wl.clocks()),
             Item::Number(kept.from),
             Item::Number(kept.to),
-            Item::Name(burst_name(mr8_burst(*value))),
+            Item::Name(name_of(Word::Burst(Mr8::from(*value).burst))?),
         ],
     )
 }
@@ -32,12 +33,11 @@ pub fn accepted(heap: Global, words: &[Word]) -> Option<String> {
     let [Word::Byte(number)] = words else {
         return None;
     };
-    let mut items = Vec::new(heap);
-    for value in 0..=u8::MAX {
-        if accepts(*number, value) {
-            items.push(Item::byte(value)).ok()?;
-        }
-    }
+    let items: Vec<Item> = (0..=u8::MAX)
+        .filter(|value| accepts(*number, *value))
+        .map(Item::byte)
+        .collect(heap)
+        .ok()?;
     shown(heap, &items)
 }
 
@@ -46,10 +46,7 @@ pub fn access(heap: Global, words: &[Word]) -> Option<String> {
     let [Word::Make(make), Word::Byte(number)] = words else {
         return None;
     };
-    let held = match after_reset(*make, *number) {
-        Some(value) => Item::byte(value),
-        None => NONE,
-    };
+    let held = after_reset(*make, *number).map_or(NONE, Item::byte);
     let reads = Item::Flag(readable(*number));
     let writes = Item::Flag(writable(*number));
     shown(heap, &[reads, writes, held])
@@ -81,7 +78,7 @@ pub fn wire(heap: Global, words: &[Word]) -> Option<String> {
         return None;
     };
     let burst = on_wire(*carried, *value);
-    shown(heap, &[Item::Name(burst_name(burst))])
+    shown(heap, &[Item::Name(name_of(Word::Burst(burst))?)])
 }
 
 // The addresses that a coverage keeps of a size.
@@ -89,7 +86,7 @@ pub fn kept(heap: Global, words: &[Word]) -> Option<String> {
     let [Word::Coverage(coverage), Word::Number(size)] = words else {
         return None;
     };
-    let Kept { from, to } = coverage.kept(*size);
+    let Span { from, to } = coverage.kept(*size);
     if from < to {
         shown(heap, &[Item::Number(from), Item::Number(to)])
     } else {

@@ -4,41 +4,37 @@ use crate::{clocks, frames, masks, registers, scripts, splits};
 use std::alloc::Global;
 use std::fmt;
 
-// What comes of a row.
-#[derive(Drop)]
-pub enum Verdict {
-    Agrees,
+// How a row differs from what is found: two kinds, and no `Option` of a text.
+#[derive(Debug, Drop)]
+pub enum Mismatch {
+    // another answer
     Differs(String),
     // the row cannot be read, or there is no memory for its answer
     Unanswered,
 }
 
-impl fmt::Display for Verdict {
+impl fmt::Display for Mismatch {
     fn fmt<W: fmt::Write>(&self, f: &mut fmt::Formatter<W>) -> fmt::Result {
         f.write_str(match self {
-            Verdict::Agrees => "agrees",
-            Verdict::Differs(found) => found.as_str(),
-            Verdict::Unanswered => "no answer",
+            Mismatch::Differs(found) => found.as_str(),
+            Mismatch::Unanswered => "no answer",
         })
     }
 }
 
 // Compares the answer to a row's question with the answer that the row has.
-pub fn judge(heap: Global, row: &str) -> Verdict {
-    let Some((question, expected)) = row.split_once(" = ") else {
-        return Verdict::Unanswered;
-    };
-    let Some(found) = answer(heap, question) else {
-        return Verdict::Unanswered;
-    };
+pub fn judge(heap: Global, row: &str) -> Result<(), Mismatch> {
+    let (question, expected) = row.split_once(" = ").ok_or(Mismatch::Unanswered)?;
+    let found = answer(heap, question).ok_or(Mismatch::Unanswered)?;
     if found.as_str() == expected {
-        Verdict::Agrees
+        Ok(())
     } else {
-        Verdict::Differs(found)
+        Err(Mismatch::Differs(found))
     }
 }
 
-// The answer to a question. A byte string, if it has one, stands last, behind a #.
+// The answer to a question. A byte string, if it has one, stands last, behind a #. The heap goes
+// down beside the words: Rattle hands it on to what allocates, and it is no part of a question.
 fn answer(heap: Global, question: &str) -> Option<String> {
     match question.split_once('#') {
         Some((front, digits)) => {
@@ -70,6 +66,7 @@ fn of_words(heap: Global, words: &[Word]) -> Option<String> {
     }
 }
 
+// No table of functions: it would name each question and its function once more, as this does.
 fn answered(heap: Global, ask: Ask, words: &[Word]) -> Option<String> {
     match ask {
         Ask::Clock => clocks::numbers(heap, words),

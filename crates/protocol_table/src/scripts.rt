@@ -1,9 +1,8 @@
 // Rows on the opening of a script, on refusals and on the lines of the report.
 use crate::items::{Item, shown};
-use crate::names::layer_name;
 use crate::words::Word;
 use fault::{Fault, Refusal};
-use report::{Heading, Refused};
+use report::{Refused, first_line as report_line};
 use script::{Opening, Stack};
 use std::alloc::Global;
 
@@ -38,10 +37,7 @@ fn opening_items(heap: Global, opening: &Opening) -> Option<String> {
 
 // The first line of the report on a script.
 pub fn first_line(heap: Global, script: &[u8]) -> Option<String> {
-    match Opening::parse(script) {
-        Ok(opening) => Heading { opening }.to_string(heap).ok(),
-        Err(fault) => Refused { fault }.to_string(heap).ok(),
-    }
+    report_line(script).to_string(heap).ok()
 }
 
 // A refusal at a place; where the strobe was lost, the good bytes behind it.
@@ -59,7 +55,6 @@ pub fn refusal(heap: Global, words: &[Word]) -> Option<String> {
 
 // The line of a refusal, and its layer.
 fn fault_line(heap: Global, fault: Fault) -> Option<String> {
-    let layer = layer_name(fault.refusal.account().layer);
-    let line = Refused { fault };
-    format!(in heap; "{line} {layer}").ok()
+    let layer = fault.refusal.account().layer;
+    format!(in heap; "{} {layer}", Refused(fault)).ok()
 }

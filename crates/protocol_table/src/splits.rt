@@ -1,19 +1,13 @@
 // Rows on splitting ranges into pieces.
 use crate::items::{Item, shown};
 use crate::words::{Word, clock_of};
-use clock::{Clock, Latency};
-use frame::{Command, Make};
-use split::{Splitter, frames_of_read, frames_of_write};
+use clock::Clock;
+use frame::{Command, Make, Span};
+use split::{Direction, Splitter, frames_of};
 use std::alloc::Global;
 
-#[derive(Clone, Copy)]
-enum Direction {
-    Read,
-    Write,
-}
-
 // Which frames are sent, and to which chip.
-#[derive(Clone, Copy)]
+#[derive(Clone, Copy, Debug, PartialEq, Eq)]
 struct Setup {
     direction: Direction,
     make: Make,
@@ -21,35 +15,21 @@ struct Setup {
 }
 
 impl Setup {
+    // `TryFrom` would want an error that says no more than None.
     fn of(words: &[Word]) -> Option<Setup> {
-        let (direction, make, rest) = match words {
-            [Word::Command(Command::Read), Word::Make(make), rest @ ..] => {
-                (Direction::Read, make, rest)
-            }
-            [Word::Command(Command::Write), Word::Make(make), rest @ ..] => {
-                (Direction::Write, make, rest)
-            }
+        let [Word::Command(command), Word::Make(make), clock @ ..] = words else {
+            return None;
+        };
+        let direction = match command {
+            Command::Read => Direction::Read,
+            Command::Write => Direction::Write,
             _ => return None,
         };
         Some(Setup {
             direction,
             make: *make,
-            clock: clock_of(rest)?,
+            clock: clock_of(clock)?,
         })
-    }
-
-    fn splitter(&self, latency: Latency) -> Splitter {
-        match self.direction {
-            Direction::Read => Splitter::for_reads(self.make, &self.clock, latency),
-            Direction::Write => Splitter::for_writes(self.make, &self.clock, latency),
-        }
-    }
-
-    fn frames(&self, start: u32, length: u32) -> Option<u32> {
-        match self.direction {
-            Direction::Read => frames_of_read(self.make, &self.clock, start, length),
-            Direction::Write => frames_of_write(self.make, &self.clock, start, length),
-        }
     }
 }
 
@@ -64,10 +44,15 @@ pub fn pieces(heap: Global, words: &[Word]) -> Option<String> {
     else {
         return None;
     };
-    let splitter = Setup::of(setup)?.splitter(*latency);
+    let setup = Setup::of(setup)?;
+    let splitter = Splitter::new(setup.direction, setup.make, &setup.clock, *latency);
+    let span = Span {
+        from: *from,
+        to: *to,
+    };
     let limit = Item::Number(splitter.limit);
-    let next = Item::Number(splitter.next(*from, *to));
-    let count = Item::Number(splitter.count(*from, *to));
+    let next = Item::Number(splitter.next(span));
+    let count = Item::Number(splitter.count(span));
     shown(heap, &[limit, next, count])
 }
 
@@ -76,7 +61,8 @@ pub fn frames(heap: Global, words: &[Word]) -> Option<String> {
     let [setup @ .., Word::Number(start), Word::Number(length)] = words else {
         return None;
     };
-    match Setup::of(setup)?.frames(*start, *length) {
+    let setup = Setup::of(setup)?;
+    match frames_of(setup.direction, setup.make, &setup.clock, *start, *length) {
         Some(count) => shown(heap, &[Item::Number(count)]),
         None => shown(heap, &[]),
     }
@@ -88,7 +74,7 @@ pub fn rounded(heap: Global, words: &[Word]) -> Option<String> {
         return None;
     };
     match split::rounded(*start, *length) {
-        Some((from, to)) => shown(heap, &[Item::Number(from), Item::Number(to)]),
+        Some(Span { from, to }) => shown(heap, &[Item::Number(from), Item::Number(to)]),
         None => shown(heap, &[]),
     }
 }

@@ -7,7 +7,7 @@ use register::{Coverage, LatencyType, Line};
 use std::alloc::Global;
 
 // What a row asks for: its first word.
-#[derive(Clone, Copy)]
+#[derive(Clone, Copy, Debug, PartialEq, Eq)]
 pub enum Ask {
     Clock,
     Keeps,
@@ -32,7 +32,7 @@ pub enum Ask {
 }
 
 // What a word stands for.
-#[derive(Clone, Copy)]
+#[derive(Clone, Copy, Debug, PartialEq, Eq)]
 pub enum Word {
     Ask(Ask),
     // a number in decimal, of 32 bits or of more
@@ -61,11 +61,9 @@ impl Word {
         }
     }
 
+    // `FromStr` and `TryFrom` would each want an error that says no more than None.
     fn of(text: &str) -> Option<Word> {
-        match number_of(text) {
-            Some(word) => Some(word),
-            None => named(text),
-        }
+        number_of(text).or_else(|| named(text))
     }
 }
 
@@ -81,11 +79,7 @@ fn number_of(text: &str) -> Option<Word> {
 }
 
 pub fn words_of(heap: Global, text: &str) -> Option<Vec<Word>> {
-    let mut words = Vec::new(heap);
-    for word in text.split_whitespace() {
-        words.push(Word::of(word)?).ok()?;
-    }
-    Some(words)
+    text.split_whitespace().map(Word::of).collect(heap).ok()?
 }
 
 // The clock of a range and a clock in kHz that are not refused.
@@ -100,23 +94,8 @@ pub fn clock_of(words: &[Word]) -> Option<Clock> {
 // plus says.
 pub fn bytes_of(heap: Global, text: &str) -> Option<Vec<u8>> {
     let (digits, zeros) = text.split_once('+').unwrap_or((text, "0"));
-    let mut bytes = written(heap, digits)?;
+    let mut bytes = hex::decode(heap, digits).ok()?;
     let length = bytes.len().checked_add(zeros.parse().ok()?)?;
     bytes.resize(length, 0).ok()?;
     Some(bytes)
-}
-
-fn written(heap: Global, digits: &str) -> Option<Vec<u8>> {
-    let mut bytes = Vec::new(heap);
-    let mut digits = digits.chars();
-    while let Some(high) = digits.next() {
-        bytes.push(byte(high, digits.next()?)?).ok()?;
-    }
-    Some(bytes)
-}
-
-// The byte that two hexadecimal digits write.
-fn byte(high: char, low: char) -> Option<u8> {
-    let byte = high.to_digit(16)? * 16 + low.to_digit(16)?;
-    Some(byte as u8)
 }

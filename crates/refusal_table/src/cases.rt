@@ -1,6 +1,8 @@
 // The cases of the table, in groups. Where the gap is not the matter, it is tRST, which always does.
 use clock::Clock;
+use std::fmt;
 
+// What is tried. No `chip::Frame`: a write's data are made when it is tried.
 #[derive(Clone, Copy)]
 pub enum Try {
     Read {
@@ -24,6 +26,26 @@ pub enum Try {
 pub struct Case {
     pub gap: u32,
     pub what: Try,
+}
+
+impl fmt::Display for Case {
+    fn fmt<W: fmt::Write>(&self, f: &mut fmt::Formatter<W>) -> fmt::Result {
+        let Case { gap, what } = *self;
+        match what {
+            Try::Read { start, bytes } => write!(f, "after {gap}, read {bytes} at {start}"),
+            Try::Write {
+                start,
+                bytes,
+                masks,
+            } => write!(f, "after {gap}, write {bytes} at {start}, mask of {masks}"),
+            Try::RegisterRead(number) => write!(f, "after {gap}, read MR{number}"),
+            Try::RegisterWrite(number, value) => {
+                write!(f, "after {gap}, write MR{number} with {value:02X}")
+            }
+            Try::Wake => write!(f, "after {gap}, wake"),
+            Try::Pulse => write!(f, "pulse of {gap}"),
+        }
+    }
 }
 
 fn read(gap: u32, start: u32, bytes: usize) -> Case {
