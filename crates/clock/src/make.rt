@@ -64,6 +64,7 @@ impl Latency {
 impl Clock {
     // The numbers of a clock in kHz and a range; 2 where the clock is 0 or above 133,000, then 3
     // where CE# may be low for fewer than 35 + 2 LC clocks.
+    // (The two stay apart: what joins them is the clock.)
     pub fn new(khz: u32, range: Range) -> Result<Clock, Refusal>
         ensures { MatchResult result (λ k. For khz range k × (refused khz range ≡ None)) (λ e. refused khz range ≡ Some e) }
     {

@@ -6,7 +6,8 @@ ghost use Rattle.hex_digits.specs.Hex.{hex_digit, hex_byte, hex_bytes, six_digit
 
 use std::fmt;
 
-// One digit, of a value below 16. `char::from_digit` gives small letters.
+// One digit, of a value below 16. `char::from_digit` gives an option of a small letter, to be unwrapped
+// and raised.
 fn digit(value: u8) -> char
     requires { value < 16 }
     ensures { result ≡ hex_digit value }
@@ -27,8 +28,8 @@ pub fn digits(byte: u8) -> (char, char)
     (digit(byte / 16), digit(byte % 16))
 }
 
-// A byte in two digits. `{:02X}` prints them too; by `digits` what is promised of these, that they
-// read back, is promised of what is printed.
+// A byte in two digits, those of `digits`. `{:02X}` prints them too, and would leave that function,
+// with what it promises, without a caller.
 #[derive(Clone, Copy, Debug, PartialEq, Eq)]
 pub struct HexByte(pub u8);
 

@@ -41,7 +41,8 @@ impl<C: Chip> Scrambler<C> {
         self.key[(address % 16) as usize]
     }
 
-    // Combines each byte of a burst with the key byte of its own address. The chip goes by its MR8.
+    // Combines each byte of a burst with the key byte of its own address. The chip goes by its MR8. Burst
+    // and start stay apart, as the cases of a frame have them.
     fn combine(&self, burst: Burst, start: u32, bytes: &mut [u8])
         ensures { Combined self.now.key (address (C.Chip.meaning self.now.chip).kind (C.Chip.meaning self.now.chip).state burst start) bytes.old bytes.new }
     {

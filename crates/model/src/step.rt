@@ -74,7 +74,8 @@ impl Device {
         self.answered = self.answered.saturating_add(1);
     }
 
-    // The address of byte `i` of a burst, as it is on the wire.
+    // The address of byte `i` of a burst, as it is on the wire. Burst and start stay apart, as the cases
+    // of a frame have them.
     fn address(&self, burst: Burst, start: u32, i: usize) -> usize
         ensures value { result ≡ address self.now.kind self.now.state burst start i }
         ensures within { start < size self.now.kind → result < size self.now.kind }

@@ -19,6 +19,7 @@ impl Device {
             frame,
             room: buffer.len(),
         };
+        // each arm admits the frame itself: the phase is judged before all else, by the arms
         match (self.state.phase, frame) {
             // the registers are those of the table, and counting begins
             (Phase::Unwoken, Frame::GlobalReset) => {

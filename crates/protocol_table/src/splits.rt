@@ -15,7 +15,7 @@ struct Setup {
 }
 
 impl Setup {
-    // `TryFrom` would want an error that says no more than None.
+    // `TryFrom` would want an error, which every caller would turn into None.
     fn of(words: &[Word]) -> Option<Setup> {
         let [Word::Command(command), Word::Make(make), clock @ ..] = words else {
             return None;

@@ -61,7 +61,7 @@ impl Word {
         }
     }
 
-    // `FromStr` and `TryFrom` would each want an error that says no more than None.
+    // `FromStr` and `TryFrom` would each want an error, which every caller would turn into None.
     fn of(text: &str) -> Option<Word> {
         number_of(text).or_else(|| named(text))
     }

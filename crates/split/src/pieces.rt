@@ -39,6 +39,7 @@ impl Iterator for Pieces {
     }
 }
 
+// The clauses give the definitions a page and a limit: what a split is does not hang on a make.
 impl Splitter {
     // For frames of one direction at a clock, with the latency that the chip has. The limit is
     // 2 (tCEM - 3 - 2 LC) bytes for reads, and 2 (tCEM - 3 - WL) for writes.
