@@ -4,13 +4,11 @@ use Rattle.std.proofs.lemmas.Bool.{eqb-true, cond-true, and_from, false_from_ne_
 use Rattle.fault.specs.declared.Fault.{Fault}
 use Rattle.fault.specs.declared.Refusal.{Refusal}
 use Rattle.mask.specs.Masks.{masked}
-use Rattle.register.specs.declared.fields.Coverage.{Coverage}
 use Rattle.chip.specs.Frames.{Sent, read, write, register_read, register_write, global_reset, wakes, address, written, stored, holds, Free, Taken, Judged}
-use Rattle.chip.specs.Meaning.{Meaning, size, coverage, strobe_at}
+use Rattle.chip.specs.Meaning.{Meaning, size}
 use Rattle.chip.specs.Resets.{ResetJudged}
 use Rattle.chip.specs.Runs.{Event, sending, resetting, Does, still, onward, Safe, Reaches, Spares, ChangedByWritesOnly}
 use Rattle.chip.specs.declared.parts.Reply.{Reply}
-use Rattle.chip.specs.declared.parts.State.{State}
 use Rattle.chip.proofs.Steps.{part_of}
 
 skipped : (hit hidden : Bool) (x old : ℕ) → (hit ≡ true → hidden ≡ false → ⊥) → cond (hit && not hidden) x old ≡ old
@@ -34,19 +32,15 @@ unstored m (register_write k v) a old miss = refl
 unstored m global_reset a old miss = refl
 
 -- a frame that does not wake the chip holds what is safe
-held_by : (r : Coverage → ℕ → Bool) (s t : State) (f : Sent) (a : ℕ) → wakes f ≡ false → strobe_at t a ≡ true → r (coverage s) a ≡ true → r (coverage t) a ≡ true → holds r s t f a ≡ true
-held_by r s t (read b x n) a never strobe before after = and_from _ _ strobe (and_from _ _ before after)
-held_by r s t (write b x d k) a never strobe before after = and_from _ _ strobe (and_from _ _ before after)
-held_by r s t (register_read k) a never strobe before after = and_from _ _ strobe (and_from _ _ before after)
-held_by r s t (register_write k v) a never strobe before after = and_from _ _ strobe (and_from _ _ before after)
-held_by r s t global_reset a never strobe before after = sym never
+held_by : (m n : Meaning) (f : Sent) (a : ℕ) → wakes f ≡ false → Safe m a → Safe n a → holds m n f a ≡ true
+held_by m n f a never before after =
+    and_from _ _ (ap not never) (and_from _ _ after.strobe (and_from _ _ before.covered after.covered))
 
 module _ (m n : Meaning) (a : ℕ) (in_it : a < size m.kind) (before : Safe m a) (after : Safe n a) where
   taken_spares : (f : Sent) (free : Free) (old new : List ℕ) (r : Result Reply (Fault ℕ)) → wakes f ≡ false → (Reaches m f a → ⊥) → Taken m f free old r n new → n.byte a ≡ m.byte a
   taken_spares f free old new r never miss t =
-      let seen : m.refreshes (coverage n.state) a ≡ true = sym (ap (λ c. c (coverage n.state) a) t.part.refreshes) ∙ after.refreshed in
       t.bytes a in_it
-      ∙ cond-true _ _ _ (held_by m.refreshes m.state n.state f a never after.strobe before.refreshed seen)
+      ∙ cond-true _ _ _ (held_by m n f a never before after)
       ∙ unstored m f a (m.byte a) miss
 
 judged_spares : (o : Option Refusal) (m n : Meaning) (a : ℕ) (f : Sent) (old new : List ℕ) (r : Result Reply (Fault ℕ)) → a < size m.kind → Safe m a → Safe n a → ((o ≡ None) × (wakes f ≡ true) → ⊥) → ((o ≡ None) × Reaches m f a → ⊥) → Judged o m f old r n new → n.byte a ≡ m.byte a

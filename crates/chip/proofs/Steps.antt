@@ -51,15 +51,8 @@ lost : (b : Bool) (x : Reply) (a : ℕ) (y : Fault ℕ) → Err y ≡ cond b (Ok
 lost true x a y e = cc
 lost false x a y e = cc
 
-answered : (x : Reply) (y : Fault ℕ) → Err y ≡ Ok x → y.refusal ≡ NoStrobe 0
-answered x y e = cc
-
 pub only_19 : {m n : Meaning} {free : Free} {old new : List ℕ} (f : Sent) (y : Fault ℕ) → Taken m f free old (Err y) n new → y.refusal ≡ NoStrobe 0
-only_19 (read b a k) y t = lost _ _ a y t.answer
-only_19 (write b a d k) y t = answered _ y t.answer
-only_19 (register_read k) y t = lost _ _ 0 y t.answer
-only_19 (register_write k v) y t = answered _ y t.answer
-only_19 global_reset y t = answered _ y t.answer
+only_19 f y t = lost _ _ _ y t.answer
 
 judged_fault : (o : Option Refusal) (m n : Meaning) (f : Sent) (old new : List ℕ) (r : Result Reply (Fault ℕ)) (x : Refusal) → o ≡ Some x → Judged o m f old r n new → err r ≡ Some (fault_at x (place f))
 judged_fault (Some e) m n f old new r x is j = ap err j.0 ∙ ap (λ z. Some (fault_at z (place f))) (same_Some e x is)

@@ -84,7 +84,7 @@ module _ (b c : Burst) (a : ℕ) (wire : (mr8 : ℕ) → on_wire b mr8 ≡ on_wi
       state = t.state;
       bytes = t.bytes;
       answer = t.answer;
-      buffer = subst (λ w. MatchBool (strobe_at n.state a) ((length new ≡ length old) × ((i : ℕ) → i < k → get_or new i 0 ≡ n.byte (at m.kind.make w a i))) (new ≡ old)) (wire m.state.mr8) t.buffer;
+      buffer = subst (λ w. MatchBool (strobe_at n a) ((length new ≡ length old) × ((i : ℕ) → i < k → get_or new i 0 ≡ n.byte (at m.kind.make w a i))) (new ≡ old)) (wire m.state.mr8) t.buffer;
     },
   )
 
@@ -98,7 +98,7 @@ module _ (b c : Burst) (a : ℕ) (wire : (mr8 : ℕ) → on_wire b mr8 ≡ on_wi
       state = t.state;
       bytes = λ x in_it.
           t.bytes x in_it
-          ∙ ap (λ w. cond (holds m.refreshes m.state n.state (write c a d k) x) (written (at m.kind.make w a) d k (length d) x (m.byte x)) (free.byte x)) (wire m.state.mr8);
+          ∙ ap (λ w. cond (holds m n (write c a d k) x) (written (at m.kind.make w a) d k (length d) x (m.byte x)) (free.byte x)) (wire m.state.mr8);
       answer = t.answer;
       buffer = t.buffer;
     },

@@ -15,10 +15,9 @@ use Rattle.frame.specs.declared.make.Make.{Make}
 use Rattle.mask.specs.Masks as mask
 use Rattle.register.specs.Registers.{mr0, on_wire, readable, accepts}
 use Rattle.register.specs.Table.{after_reset}
-use Rattle.register.specs.declared.fields.Coverage.{Coverage}
 use Rattle.register.specs.declared.fields.LatencyType.{LatencyType}
 use Rattle.register.specs.declared.fields.LatencyType.TheVariants.{Variable, Fixed}
-use Rattle.chip.specs.Meaning.{Meaning, size, read_latency, write_latency, coverage, strobe_at, register_strobe}
+use Rattle.chip.specs.Meaning.{Meaning, size, read_latency, write_latency, refreshed, strobe_at, register_strobe}
 use Rattle.chip.specs.declared.parts.Frame.{Frame}
 use Rattle.chip.specs.declared.parts.Frame.TheVariants as frame
 use Rattle.chip.specs.declared.parts.Kind.{Kind}
@@ -60,6 +59,10 @@ carries s (write b a d k) l = transfer.Write (write_latency s) (length d)
 carries s (register_read k) l = transfer.RegisterRead (read_latency s)
 carries s (register_write k v) l = transfer.RegisterWrite
 carries s global_reset l = transfer.GlobalReset
+
+-- how long CE# is low for it
+abbrev pub low_for : State → Sent → ℕ → ℕ
+low_for s f l = low_clocks (carries s f l)
 
 -- ---- what is refused
 
@@ -103,7 +106,7 @@ bad_count global_reset = false
 
 -- the low clocks exceed tCEM; a read may always come to take twice its latency
 abbrev pub too_long : Kind → State → Sent → Bool
-too_long k s f = nat_lt k.clock.tcem (low_clocks (carries s f (2 * clocks (read_latency s))))
+too_long k s f = nat_lt k.clock.tcem (low_for s f (2 * clocks (read_latency s)))
 
 abbrev pub bad_register : Sent → Bool
 bad_register (read b a n) = false
@@ -193,26 +196,26 @@ counted s low strobe = record {
   clocks = held (s.clocks + low);
 }
 
--- wake: the registers are those of the table, the wait is due, and counting begins
-abbrev pub woken : Kind → Bool → State
-woken k strobe = record {
+-- a wake of so many low clocks is over: the registers are those of the table, the wait is due, and counting begins
+abbrev pub woken : Kind → ℕ → Bool → State
+woken k low strobe = record {
   mr0 = reset_value k.make 0;
   mr4 = reset_value k.make 4;
   mr8 = reset_value k.make 8;
   phase = Awake;
   strobe = strobe;
   settling = true;
-  low = low_clocks transfer.GlobalReset;
+  low = low;
   frames = 0;
   clocks = 0;
 }
 
 abbrev pub after : Kind → State → Sent → Free → State
-after k s (read b a n) f = counted s (low_clocks (carries s (read b a n) f.latency)) f.strobe
-after k s (write b a d m) f = counted s (low_clocks (carries s (write b a d m) 0)) f.strobe
-after k s (register_read n) f = counted s (low_clocks (carries s (register_read n) 0)) f.strobe
-after k s (register_write n v) f = counted (with_register s n v) (low_clocks transfer.RegisterWrite) f.strobe
-after k s global_reset f = woken k f.strobe
+after k s (read b a n) f = counted s (low_for s (read b a n) f.latency) f.strobe
+after k s (write b a d m) f = counted s (low_for s (write b a d m) f.latency) f.strobe
+after k s (register_read n) f = counted s (low_for s (register_read n) f.latency) f.strobe
+after k s (register_write n v) f = counted (with_register s n v) (low_for s (register_write n v) f.latency) f.strobe
+after k s global_reset f = woken k (low_for s global_reset f.latency) f.strobe
 
 -- byte i of a burst, as it is on the wire
 abbrev pub address : Kind → State → Burst → ℕ → ℕ → ℕ
@@ -230,29 +233,38 @@ stored k s (register_read n) x old = old
 stored k s (register_write n v) x old = old
 stored k s global_reset x old = old
 
--- a byte that the frame leaves to nothing else: refreshed before and after, with the strobe there; never over wake
-abbrev pub holds : (Coverage → ℕ → Bool) → State → State → Sent → ℕ → Bool
-holds r s t (read b a n) x = strobe_at t x && (r (coverage s) x && r (coverage t) x)
-holds r s t (write b a d m) x = strobe_at t x && (r (coverage s) x && r (coverage t) x)
-holds r s t (register_read n) x = strobe_at t x && (r (coverage s) x && r (coverage t) x)
-holds r s t (register_write n v) x = strobe_at t x && (r (coverage s) x && r (coverage t) x)
-holds r s t global_reset x = false
+-- a byte is held over the frame: refreshed before and after it, with the strobe there; none is over wake
+abbrev pub holds : Meaning → Meaning → Sent → ℕ → Bool
+holds m n f x = not (wakes f) && (strobe_at n x && (refreshed m x && refreshed n x))
 
--- the answer, by the state after the frame: a read without the strobe is 19
-abbrev pub reply : Kind → State → State → Sent → Result Reply (Fault ℕ)
-reply k s t (read b a n) = cond (strobe_at t a) (Ok Done) (Err (fault_at (NoStrobe 0) a))
-reply k s t (write b a d m) = Ok Done
-reply k s t (register_read n) = cond (register_strobe t) (Ok (Register (register k s n))) (Err (fault_at (NoStrobe 0) 0))
-reply k s t (register_write n v) = Ok Done
-reply k s t global_reset = Ok Done
+-- the strobe comes with the frame, by the chip after it. A read needs it at its start, which is enough, as there is one
+-- strobe for all addresses; a frame that reads nothing needs none
+abbrev pub comes : Meaning → Sent → Bool
+comes n (read b a c) = strobe_at n a
+comes n (write b a d k) = true
+comes n (register_read r) = register_strobe n
+comes n (register_write r v) = true
+comes n global_reset = true
+
+-- what is answered: a register, where one is read
+abbrev pub reply : Kind → State → Sent → Reply
+reply k s (read b a n) = Done
+reply k s (write b a d m) = Done
+reply k s (register_read n) = Register (register k s n)
+reply k s (register_write n v) = Done
+reply k s global_reset = Done
+
+-- the answer, by whether the strobe comes: 19 without it
+abbrev pub answer_by : Kind → State → Bool → Sent → Result Reply (Fault ℕ)
+answer_by k s there f = cond there (Ok (reply k s f)) (Err (fault_at (NoStrobe 0) (place f)))
 
 -- the buffer: a read with the strobe fills it with the bytes of its burst, as they are after the frame
-abbrev pub Filled : Kind → State → State → Sent → (ℕ → ℕ) → List ℕ → List ℕ → Type 0
-Filled k s t (read b a n) byte old new = MatchBool (strobe_at t a) ((length new ≡ length old) × ((i : ℕ) → i < n → slice_index new i ≡ byte (address k s b a i))) (new ≡ old)
-Filled k s t (write b a d m) byte old new = new ≡ old
-Filled k s t (register_read n) byte old new = new ≡ old
-Filled k s t (register_write n v) byte old new = new ≡ old
-Filled k s t global_reset byte old new = new ≡ old
+abbrev pub Filled : Kind → State → Bool → Sent → (ℕ → ℕ) → List ℕ → List ℕ → Type 0
+Filled k s there (read b a n) byte old new = MatchBool there ((length new ≡ length old) × ((i : ℕ) → i < n → slice_index new i ≡ byte (address k s b a i))) (new ≡ old)
+Filled k s there (write b a d m) byte old new = new ≡ old
+Filled k s there (register_read n) byte old new = new ≡ old
+Filled k s there (register_write n v) byte old new = new ≡ old
+Filled k s there global_reset byte old new = new ≡ old
 
 -- what never changes
 pub record SamePart (m n : Meaning) : Type 0 where
@@ -264,9 +276,9 @@ pub record Taken (m : Meaning) (f : Sent) (free : Free) (old : List ℕ) (r : Re
   pub allowed : Allowed m.state free
   pub part : SamePart m n
   pub state : n.state ≡ after m.kind m.state f free
-  pub bytes : (a : ℕ) → a < size m.kind → n.byte a ≡ cond (holds m.refreshes m.state n.state f a) (stored m.kind m.state f a (m.byte a)) (free.byte a)
-  pub answer : r ≡ reply m.kind m.state n.state f
-  pub buffer : Filled m.kind m.state n.state f n.byte old new
+  pub bytes : (a : ℕ) → a < size m.kind → n.byte a ≡ cond (holds m n f a) (stored m.kind m.state f a (m.byte a)) (free.byte a)
+  pub answer : r ≡ answer_by m.kind m.state (comes n f) f
+  pub buffer : Filled m.kind m.state (comes n f) f n.byte old new
 
 -- a frame sent after a gap: refused with nothing changed, or taken
 abbrev pub Judged : Option Refusal → Meaning → Sent → List ℕ → Result Reply (Fault ℕ) → Meaning → List ℕ → Type 0

@@ -35,12 +35,16 @@ write_latency s = (mr4 s.mr4).wl
 abbrev pub coverage : State → Coverage
 coverage s = (mr4 s.mr4).coverage
 
--- the strobe comes with a read of this address; with a register read
-abbrev pub strobe_at : State → ℕ → Bool
-strobe_at s a = s.strobe
+-- the coverage that MR4 holds refreshes this address
+abbrev pub refreshed : Meaning → ℕ → Bool
+refreshed m a = m.refreshes (coverage m.state) a
 
-abbrev pub register_strobe : State → Bool
-register_strobe s = s.strobe
+-- the strobe comes with a read of this address; with a register read
+abbrev pub strobe_at : Meaning → ℕ → Bool
+strobe_at m a = m.state.strobe
+
+abbrev pub register_strobe : Meaning → Bool
+register_strobe m = m.state.strobe
 
 -- true of every chip: it has a page at least and 16 MiB at most, the full coverage refreshes all of it, and
 -- nothing refreshes what is not there. What is true of its clock numbers is in their type

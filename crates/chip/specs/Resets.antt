@@ -1,11 +1,11 @@
 -- What a reset by a pulse does to a chip. Assumes nothing.
-use Rattle.std.specs.Prelude.{◌≡◌, ℕ, Bool, true, false, [], ◌∷◌, Some, None, Ok, Err, Option, Result, nat_lt}
+use Rattle.std.specs.Prelude.{◌≡◌, ℕ, ◌<◌, Bool, true, false, [], ◌∷◌, Some, None, Ok, Err, Option, Result, nat_lt}
 use Rattle.fault.specs.Refusals.{fault_at}
 use Rattle.fault.specs.declared.Fault.{Fault}
 use Rattle.fault.specs.declared.Refusal.{Refusal}
 use Rattle.fault.specs.declared.Refusal.TheVariants.{WrongPhase, TooSoon}
 use Rattle.chip.specs.Frames.{first, reset_value, SamePart}
-use Rattle.chip.specs.Meaning.{Meaning}
+use Rattle.chip.specs.Meaning.{Meaning, size}
 use Rattle.chip.specs.declared.parts.Kind.{Kind}
 use Rattle.chip.specs.declared.parts.Phase.{Phase}
 use Rattle.chip.specs.declared.parts.Phase.TheVariants.{Unwoken, Awake}
@@ -19,8 +19,7 @@ unwoken Awake = false
 abbrev pub reset_refused : Kind → State → ℕ → Option Refusal
 reset_refused k s pulse = first ((unwoken s.phase, WrongPhase) ∷ (nat_lt pulse k.clock.trp, TooSoon) ∷ [])
 
--- the registers are those of the table and the wait is due; the latest low clocks and the counts stay. Whether the
--- strobe is there is free
+-- the registers are those of the table and the wait is due; the latest low clocks and the counts stay
 abbrev pub after_pulse : Kind → State → Bool → State
 after_pulse k s strobe = record {
   mr0 = reset_value k.make 0;
@@ -34,14 +33,20 @@ after_pulse k s strobe = record {
   clocks = s.clocks;
 }
 
--- a reset that is taken; every byte is free after it
-pub record Restarted (m : Meaning) (strobe : Bool) (n : Meaning) : Type 0 where
+-- what a reset leaves free: whether the strobe is there after it, and every byte
+pub record FreeByReset : Type 0 where
+  pub strobe : Bool
+  pub byte : ℕ → ℕ
+
+-- a reset that is taken
+pub record Restarted (m : Meaning) (free : FreeByReset) (n : Meaning) : Type 0 where
   pub part : SamePart m n
-  pub state : n.state ≡ after_pulse m.kind m.state strobe
+  pub state : n.state ≡ after_pulse m.kind m.state free.strobe
+  pub bytes : (a : ℕ) → a < size m.kind → n.byte a ≡ free.byte a
 
 abbrev pub ResetJudged : Option Refusal → Meaning → Result (Unit {0}) (Fault ℕ) → Meaning → Type 0
 ResetJudged (Some e) m r n = (r ≡ Err (fault_at e 0)) × (n ≡ m)
-ResetJudged None m r n = (r ≡ Ok tt) × ((strobe : Bool) × Restarted m strobe n)
+ResetJudged None m r n = (r ≡ Ok tt) × ((free : FreeByReset) × Restarted m free n)
 
 pub record Resets (m : Meaning) (pulse : ℕ) (r : Result (Unit {0}) (Fault ℕ)) (n : Meaning) : Type 0 where
   pub judged : ResetJudged (reset_refused m.kind m.state pulse) m r n

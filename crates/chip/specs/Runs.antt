@@ -6,7 +6,7 @@ use Rattle.fault.specs.declared.Refusal.{Refusal}
 use Rattle.frame.specs.Low.{held}
 use Rattle.mask.specs.Masks.{masked}
 use Rattle.chip.specs.Frames.{Sent, read, write, register_read, register_write, global_reset, place, wakes, refused, address, SamePart, Sends}
-use Rattle.chip.specs.Meaning.{Meaning, size, coverage, strobe_at, register_strobe}
+use Rattle.chip.specs.Meaning.{Meaning, size, refreshed, strobe_at, register_strobe}
 use Rattle.chip.specs.Resets.{reset_refused, Resets}
 use Rattle.chip.specs.declared.parts.Reply.{Reply}
 
@@ -64,8 +64,8 @@ total count m (s ∷ rest) = count m s.event s.after + total count s.after rest
 
 -- a read of a comes with the strobe, and the coverage that the chip has refreshes a
 pub record Safe (m : Meaning) (a : ℕ) : Type 0 where
-  pub strobe : strobe_at m.state a ≡ true
-  pub refreshed : m.refreshes (coverage m.state) a ≡ true
+  pub strobe : strobe_at m a ≡ true
+  pub covered : refreshed m a ≡ true
 
 -- a byte of the frame that is not masked lies at a, in the burst that is on the wire
 abbrev pub Reaches : Meaning → Sent → ℕ → Type 0
@@ -159,8 +159,8 @@ RefusedLeavesEverything = (m n : Meaning) (steps : List Step) → Runs m steps n
 
 -- where the strobe is gone before, it is gone after
 pub record StrobeStaysAway (m n : Meaning) : Type 0 where
-  pub memory : (a : ℕ) → strobe_at m.state a ≡ false → strobe_at n.state a ≡ false
-  pub registers : register_strobe m.state ≡ false → register_strobe n.state ≡ false
+  pub memory : (a : ℕ) → strobe_at m a ≡ false → strobe_at n a ≡ false
+  pub registers : register_strobe m ≡ false → register_strobe n ≡ false
 
 -- over a run without a restart; a wake does not bring it back
 abbrev pub StrobeReturnsByResetAlone : Type 0

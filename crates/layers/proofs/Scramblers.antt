@@ -19,8 +19,9 @@ use Rattle.frame.specs.declared.burst.Burst.{Burst}
 use Rattle.frame.specs.declared.low.Transfer.TheVariants as transfer
 use Rattle.mask.specs.Masks.{masked, size}
 use Rattle.register.specs.Registers.{on_wire}
-use Rattle.chip.specs.Frames.{Sent, read, write, register_read, register_write, global_reset, sent, place, takes, least_gap, bad_start, first, refused, Free, after, counted, address, written, stored, holds, reply, Filled, Taken, Judged, Sends}
+use Rattle.chip.specs.Frames.{Sent, read, write, register_read, register_write, global_reset, sent, place, takes, least_gap, bad_start, first, refused, Free, after, counted, address, written, stored, holds, comes, answer_by, Filled, Taken, Judged, Sends}
 use Rattle.chip.specs.Meaning.{Meaning, write_latency}
+use Rattle.chip.specs.Resets.{reset_refused, ResetJudged, Resets}
 use Rattle.chip.specs.declared.parts.Frame.{Frame}
 use Rattle.chip.specs.declared.parts.Frame.TheVariants as frame
 use Rattle.chip.specs.declared.parts.Kind.{Kind}
@@ -75,8 +76,8 @@ module _ (key : List ℕ) (m : Meaning) (g f : Sent) where
   record Stands : Type 0 where
     pub leaves : (free : Free) → after m.kind m.state g free ≡ after m.kind m.state f free
     pub stores : (a old : ℕ) → bit_xor (stored m.kind m.state g a old) (key_at key a) ≡ stored m.kind m.state f a (bit_xor old (key_at key a))
-    pub keeps : (t : State) (a : ℕ) → holds m.refreshes m.state t g a ≡ holds m.refreshes m.state t f a
-    pub answers : (t : State) → reply m.kind m.state t g ≡ reply m.kind m.state t f
+    pub keeps : (n : Meaning) (a : ℕ) → holds m n g a ≡ holds m n f a
+    pub answers : (n : Meaning) → answer_by m.kind m.state (comes n g) g ≡ answer_by m.kind m.state (comes n f) f
     pub placed : place g ≡ place f
 
 after_mixed : (key : List ℕ) (k : Kind) (s : State) (f : Sent) (free : Free) → after k s f free ≡ after k s f (free_mixed key free)
@@ -88,7 +89,7 @@ after_mixed key k s (register_write n v) free = refl
 after_mixed key k s global_reset free = refl
 
 module _ (key : List ℕ) (m n : Meaning) (g f : Sent) (stands : Stands key m g f) (old mid new : List ℕ) (r : Result Reply (Fault ℕ)) where
-  taken_above : (free : Free) → Filled m.kind m.state n.state f (scrambler key n).byte old new → Taken m g free old r n mid → Taken (scrambler key m) f (free_mixed key free) old r (scrambler key n) new
+  taken_above : (free : Free) → Filled m.kind m.state (comes n f) f (scrambler key n).byte old new → Taken m g free old r n mid → Taken (scrambler key m) f (free_mixed key free) old r (scrambler key n) new
   unfolding free_mixed
   taken_above free full t = record {
     allowed = record { strobe = t.allowed.strobe; latency = t.allowed.latency };
@@ -96,8 +97,8 @@ module _ (key : List ℕ) (m n : Meaning) (g f : Sent) (stands : Stands key m g 
     state = t.state ∙ stands.leaves free ∙ after_mixed key m.kind m.state f free;
     bytes = λ a in_it.
         byte_mixed _ (n.byte a) _ _ (free.byte a) (key_at key a) (t.bytes a in_it) (stands.stores a (m.byte a))
-        ∙ ap (λ h. cond h (stored m.kind m.state f a (bit_xor (m.byte a) (key_at key a))) (bit_xor (free.byte a) (key_at key a))) (stands.keeps n.state a);
-    answer = t.answer ∙ stands.answers n.state;
+        ∙ ap (λ h. cond h (stored m.kind m.state f a (bit_xor (m.byte a) (key_at key a))) (bit_xor (free.byte a) (key_at key a))) (stands.keeps n a);
+    answer = t.answer ∙ stands.answers n;
     buffer = full;
   }
 
@@ -127,12 +128,12 @@ stands_straight key m (register_read n) is = record { leaves = λ _. refl; store
 stands_straight key m (register_write n v) is = record { leaves = λ _. refl; stores = λ _ _. refl; keeps = λ _ _. refl; answers = λ _. refl; placed = refl }
 stands_straight key m global_reset is = record { leaves = λ _. refl; stores = λ _ _. refl; keeps = λ _ _. refl; answers = λ _. refl; placed = refl }
 
-straight_filled : (k : Kind) (s t : State) (f : Sent) (byte over : ℕ → ℕ) (old new : List ℕ) → Straight f → Filled k s t f byte old new → Filled k s t f over old new
-straight_filled k s t (read b a n) byte over old new is full = absurd is
-straight_filled k s t (write b a d m) byte over old new is full = absurd is
-straight_filled k s t (register_read n) byte over old new is full = full
-straight_filled k s t (register_write n v) byte over old new is full = full
-straight_filled k s t global_reset byte over old new is full = full
+straight_filled : (k : Kind) (s : State) (there : Bool) (f : Sent) (byte over : ℕ → ℕ) (old new : List ℕ) → Straight f → Filled k s there f byte old new → Filled k s there f over old new
+straight_filled k s there (read b a n) byte over old new is full = absurd is
+straight_filled k s there (write b a d m) byte over old new is full = absurd is
+straight_filled k s there (register_read n) byte over old new is full = full
+straight_filled k s there (register_write n v) byte over old new is full = full
+straight_filled k s there global_reset byte over old new is full = full
 
 module _ (key : List ℕ) (m n : Meaning) (f : Sent) (is : Straight f) (old new : List ℕ) (r : Result Reply (Fault ℕ)) where
   straight_judged : (o : Option Refusal) → Judged o m f old r n new → Judged o (scrambler key m) f old r (scrambler key n) new
@@ -140,7 +141,7 @@ module _ (key : List ℕ) (m n : Meaning) (f : Sent) (is : Straight f) (old new 
   straight_judged None (free, t) = (
     free_mixed key free,
     taken_above key m n f f (stands_straight key m f is) old new new r free
-        (straight_filled m.kind m.state n.state f n.byte (scrambler key n).byte old new is t.buffer)
+        (straight_filled m.kind m.state (comes n f) f n.byte (scrambler key n).byte old new is t.buffer)
         t,
   )
 
@@ -290,3 +291,18 @@ sends_long key m n gap f b a d mask old new r write_is h below =
       judged =
           subst (λ o. Judged o (scrambler key m) f old r (scrambler key n) new) (sym is) (answer, ap (scrambler key) same, buffer);
     }
+
+-- ---- a reset
+
+reset_above : (key : List ℕ) (m n : Meaning) (r : Result (Unit {0}) (Fault ℕ)) (o : Option Refusal) → ResetJudged o m r n → ResetJudged o (scrambler key m) r (scrambler key n)
+reset_above key m n r (Some e) (answer, same) = (answer, ap (scrambler key) same)
+reset_above key m n r None (answer, (free, t)) = (
+  answer,
+  (
+    record { strobe = free.strobe; byte = (scrambler key n).byte },
+    record { part = record { kind = t.part.kind; refreshes = t.part.refreshes }; state = t.state; bytes = λ a in_it. refl },
+  ),
+)
+
+pub resets_above : (key : List ℕ) (pulse : ℕ) (m n : Meaning) (r : Result (Unit {0}) (Fault ℕ)) → Resets m pulse r n → Resets (scrambler key m) pulse r (scrambler key n)
+resets_above key pulse m n r below = record { judged = reset_above key m n r (reset_refused m.kind m.state pulse) below.judged }

@@ -39,7 +39,7 @@ taken m n f old new x (Some e) (answer, _, _) = cc
 taken m n f old new x None judged = judged
 
 -- a read that is answered gives the bytes before it, where they are held over it
-read_back : (m n : Meaning) (gap : ℕ) (c : Burst) (e l j x : ℕ) (old new : List ℕ) → Sends m gap (read c e l) old (Ok Done) n new → x < size m.kind → j < l → address m.kind m.state c e j ≡ x → holds m.refreshes m.state n.state (read c e l) x ≡ true → get_or new j 0 ≡ m.byte x
+read_back : (m n : Meaning) (gap : ℕ) (c : Burst) (e l j x : ℕ) (old new : List ℕ) → Sends m gap (read c e l) old (Ok Done) n new → x < size m.kind → j < l → address m.kind m.state c e j ≡ x → holds m n (read c e l) x ≡ true → get_or new j 0 ≡ m.byte x
 read_back m n gap c e l j x old new sends in_it inside here held =
     let (free, t) = taken m n (read c e l) old new Done (refused m.kind m.state gap (read c e l)) sends.judged in
     let there = strobe_there n.state.strobe Done Done _ t.answer in
@@ -49,7 +49,7 @@ read_back m n gap c e l j x old new sends in_it inside here held =
     ∙ cond-true _ _ _ held
 
 -- a write that is answered leaves the last unmasked byte at an address that is held over it
-write_lies : (m n : Meaning) (gap : ℕ) (b : Burst) (a i x : ℕ) (d k old new : List ℕ) → Sends m gap (write b a d k) old (Ok Done) n new → x < size m.kind → LastAt (address m.kind m.state b a) d k i → address m.kind m.state b a i ≡ x → holds m.refreshes m.state n.state (write b a d k) x ≡ true → (n.byte x ≡ get_or d i 0) × (n.kind ≡ m.kind)
+write_lies : (m n : Meaning) (gap : ℕ) (b : Burst) (a i x : ℕ) (d k old new : List ℕ) → Sends m gap (write b a d k) old (Ok Done) n new → x < size m.kind → LastAt (address m.kind m.state b a) d k i → address m.kind m.state b a i ≡ x → holds m n (write b a d k) x ≡ true → (n.byte x ≡ get_or d i 0) × (n.kind ≡ m.kind)
 write_lies m n gap b a i x d k old new sends in_it is here held =
     let (free, t) = taken m n (write b a d k) old new Done (refused m.kind m.state gap (write b a d k)) sends.judged in (
       t.bytes x in_it

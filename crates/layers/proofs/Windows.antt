@@ -14,17 +14,17 @@ use Rattle.frame.specs.declared.make.Make.TheVariants as make
 use Rattle.fault.specs.Refusals.{fault_at}
 use Rattle.fault.specs.declared.Fault.{Fault}
 use Rattle.fault.specs.declared.Refusal.{Refusal}
-use Rattle.fault.specs.declared.Refusal.TheVariants.{WrongPhase, TooSoon, BadStart, BadCount, TooLong, BadRegister, NoStrobe}
+use Rattle.fault.specs.declared.Refusal.TheVariants.{WrongPhase, TooSoon, BadStart, BadCount, TooLong, BadRegister}
 use Rattle.register.specs.declared.fields.Coverage.{Coverage}
-use Rattle.chip.specs.Frames.{Sent, read, write, register_read, register_write, global_reset, sent, place, takes, least_gap, bad_start, bad_count, too_long, first, refused, Free, after, address, written, stored, holds, register, reply, Filled, Taken, Judged, Sends}
+use Rattle.chip.specs.Frames.{Sent, read, write, register_read, register_write, global_reset, sent, place, wakes, takes, least_gap, bad_start, bad_count, too_long, first, refused, Free, after, address, written, stored, holds, comes, reply, answer_by, Filled, SamePart, Taken, Judged, Sends}
 use Rattle.mask.specs.Masks.{masked}
 use Rattle.register.specs.Registers.{on_wire}
-use Rattle.chip.specs.Meaning.{Meaning, Lawful, size, largest_size}
+use Rattle.chip.specs.Meaning.{Meaning, Lawful, size, largest_size, refreshed, strobe_at}
+use Rattle.chip.specs.Resets.{reset_refused, ResetJudged, Resets}
 use Rattle.chip.specs.declared.parts.Frame.{Frame}
 use Rattle.chip.specs.declared.parts.Frame.TheVariants as frame
 use Rattle.chip.specs.declared.parts.Kind.{Kind}
 use Rattle.chip.specs.declared.parts.Reply.{Reply}
-use Rattle.chip.specs.declared.parts.Reply.TheVariants.{Done, Register}
 use Rattle.chip.specs.declared.parts.State.{State}
 use Rattle.chip.proofs.Tests.{good_start}
 use Rattle.layers.specs.LawfulWindows.{parts}
@@ -120,10 +120,6 @@ when_both : {P Q P' Q' : Type 0} (b : Bool) → MatchBool b P Q → (P → P') �
 when_both true w f g = f w
 when_both false w f g = g w
 
-placed_either : (b : Bool) (x : Reply) (r : Refusal) (p q : ℕ) → placed q (cond b (Ok x) (Err (fault_at r p))) ≡ cond b (Ok x) (Err (fault_at r q))
-placed_either true x r p q = refl
-placed_either false x r p q = refl
-
 module _ (h : ℕ) (k : Kind) (s : State) (most : size k ≤ largest_size) where
   start_below : (a : ℕ) → (a % 2 == 1 || nat_le (size (window_kind h k)) a) ≡ (moved (shift h k) a % 2 == 1 || nat_le (size k) (moved (shift h k) a))
   start_below a = start_same (shift h k) (size k) (size (window_kind h k)) a (even_pages k.make (hides h k)) (parts h k) most
@@ -154,20 +150,24 @@ module _ (h : ℕ) (k : Kind) (s : State) (most : size k ≤ largest_size) where
   stored_below (register_write n v) x old e = refl
   stored_below global_reset x old e = refl
 
-  filled_below : (t : State) (f : Sent) (byte : ℕ → ℕ) (old new : List ℕ) → bad_start (window_kind h k) f ≡ false → Filled k s t (lowered (shift h k) f) byte old new → Filled (window_kind h k) s t f (λ a. byte (a + shift h k)) old new
-  filled_below t (read b a n) byte old new e full =
-      when_both t.strobe full (λ p. (p.0, λ i in_it. p.1 i in_it ∙ ap byte (address_below b a i e))) (λ p. p)
-  filled_below t (write b a d m) byte old new e full = full
-  filled_below t (register_read n) byte old new e full = full
-  filled_below t (register_write n v) byte old new e full = full
-  filled_below t global_reset byte old new e full = full
+  filled_below : (there : Bool) (f : Sent) (byte : ℕ → ℕ) (old new : List ℕ) → bad_start (window_kind h k) f ≡ false → Filled k s there (lowered (shift h k) f) byte old new → Filled (window_kind h k) s there f (λ a. byte (a + shift h k)) old new
+  filled_below there (read b a n) byte old new e full =
+      when_both there full (λ p. (p.0, λ i in_it. p.1 i in_it ∙ ap byte (address_below b a i e))) (λ p. p)
+  filled_below there (write b a d m) byte old new e full = full
+  filled_below there (register_read n) byte old new e full = full
+  filled_below there (register_write n v) byte old new e full = full
+  filled_below there global_reset byte old new e full = full
 
-  reply_below : (t : State) (f : Sent) → placed (place f) (reply k s t (lowered (shift h k) f)) ≡ reply (window_kind h k) s t f
-  reply_below t (read b a n) = placed_either t.strobe Done (NoStrobe 0) _ a
-  reply_below t (write b a d m) = refl
-  reply_below t (register_read n) = placed_either t.strobe (Register (register k s n)) (NoStrobe 0) 0 0
-  reply_below t (register_write n v) = refl
-  reply_below t global_reset = refl
+  reply_below : (f : Sent) → reply k s (lowered (shift h k) f) ≡ reply (window_kind h k) s f
+  reply_below (read b a n) = refl
+  reply_below (write b a d m) = refl
+  reply_below (register_read n) = refl
+  reply_below (register_write n v) = refl
+  reply_below global_reset = refl
+
+  answer_below : (there : Bool) (f : Sent) → placed (place f) (answer_by k s there (lowered (shift h k) f)) ≡ answer_by (window_kind h k) s there f
+  answer_below true f = ap (λ x. Ok x) (reply_below f)
+  answer_below false f = refl
 
 after_below : (h : ℕ) (k : Kind) (s : State) (f : Sent) (free : Free) → after k s (lowered (shift h k) f) free ≡ after (window_kind h k) s f (free_above (shift h k) free)
 unfolding free_above
@@ -177,12 +177,31 @@ after_below h k s (register_read n) free = refl
 after_below h k s (register_write n v) free = refl
 after_below h k s global_reset free = refl
 
-holds_below : (by : ℕ) (r : Coverage → ℕ → Bool) (s t : State) (f : Sent) (x : ℕ) → holds r s t (lowered by f) (x + by) ≡ holds (λ c a. r c (a + by)) s t f x
-holds_below by r s t (read b a n) x = refl
-holds_below by r s t (write b a d m) x = refl
-holds_below by r s t (register_read n) x = refl
-holds_below by r s t (register_write n v) x = refl
-holds_below by r s t global_reset x = refl
+wakes_below : (by : ℕ) (f : Sent) → wakes (lowered by f) ≡ wakes f
+wakes_below by (read b a n) = refl
+wakes_below by (write b a d m) = refl
+wakes_below by (register_read n) = refl
+wakes_below by (register_write n v) = refl
+wakes_below by global_reset = refl
+
+comes_below : (h by : ℕ) (n : Meaning) (f : Sent) → comes n (lowered by f) ≡ comes (window h n) f
+comes_below h by n (read b a c) = refl
+comes_below h by n (write b a d m) = refl
+comes_below h by n (register_read r) = refl
+comes_below h by n (register_write r v) = refl
+comes_below h by n global_reset = refl
+
+holds_below : (h : ℕ) (m n : Meaning) (f : Sent) (x : ℕ) → n.kind ≡ m.kind → holds m n (lowered (shift h m.kind) f) (x + shift h m.kind) ≡ holds (window h m) (window h n) f x
+holds_below h m n f x same =
+    ap (λ w. not w && (strobe_at n x && (refreshed m (x + shift h m.kind) && refreshed n (x + shift h m.kind)))) (wakes_below (shift h m.kind) f)
+    ∙ ap (λ k. not (wakes f) && (strobe_at n x && (refreshed m (x + shift h m.kind) && refreshed n (x + shift h k)))) (sym same)
+
+-- what never changes below never changes in the window
+part_above : (h : ℕ) (m n : Meaning) → SamePart m n → SamePart (window h m) (window h n)
+part_above h m n part = record {
+  kind = ap (window_kind h) part.kind;
+  refreshes = λ i c a. part.refreshes i c (a + shift h (part.kind i));
+}
 
 -- a frame that is taken below is taken by the window
 taken_above : (h : ℕ) (m n : Meaning) (f : Sent) (free : Free) (old new : List ℕ) (r : Result Reply (Fault ℕ)) → Lawful m → bad_start (window_kind h m.kind) f ≡ false → Taken m (lowered (shift h m.kind) f) free old r n new → Taken (window h m) f (free_above (shift h m.kind) free) old (placed (place f) r) (window h n) new
@@ -192,19 +211,20 @@ taken_above h m n f free old new r law good t =
     let same = t.part.kind in
     record {
       allowed = record { strobe = t.allowed.strobe; latency = t.allowed.latency };
-      part = record {
-        kind = ap (window_kind h) same;
-        refreshes = λ i c a. t.part.refreshes i c (a + shift h (same i));
-      };
+      part = part_above h m n t.part;
       state = t.state ∙ after_below h m.kind m.state f free;
       bytes = λ a in_it.
           ap (λ k. n.byte (a + shift h k)) same
           ∙ t.bytes (a + by) (omega (arith, parts h m.kind))
-          ∙ (λ i. cond (holds_below by m.refreshes m.state n.state f a i) (stored_below h m.kind m.state law.most f a (m.byte (a + by)) good i) (free.byte (a + by)));
-      answer = ap (placed (place f)) t.answer ∙ reply_below h m.kind m.state law.most n.state f;
+          ∙ (λ i. cond (holds_below h m n f a same i) (stored_below h m.kind m.state law.most f a (m.byte (a + by)) good i) (free.byte (a + by)));
+      answer =
+          ap (placed (place f)) t.answer
+          ∙ answer_below h m.kind m.state law.most (comes n (lowered by f)) f
+          ∙ ap (λ there. answer_by (window_kind h m.kind) m.state there f) (comes_below h by n f);
       buffer =
-          subst (λ k. Filled (window_kind h m.kind) m.state n.state f (λ a. n.byte (a + shift h k)) old new) (sym same)
-          (filled_below h m.kind m.state law.most n.state f n.byte old new good t.buffer);
+          subst (λ k. Filled (window_kind h m.kind) m.state (comes (window h n) f) f (λ a. n.byte (a + shift h k)) old new) (sym same)
+          (subst (λ there. Filled (window_kind h m.kind) m.state there f (λ a. n.byte (a + by)) old new) (comes_below h by n f)
+          (filled_below h m.kind m.state law.most (comes n (lowered by f)) f n.byte old new good t.buffer));
     }
 
 -- a frame that is judged below is judged so by the window
@@ -244,3 +264,18 @@ placed_by Q p (Err d) back is told =
 pub sends_down : (h gap : ℕ) (m n : Meaning) (f below : Sent) (old new : List ℕ) (r back : Result Reply (Fault ℕ)) → Lawful m → below ≡ lowered (shift h m.kind) f → back ≡ placed (place f) r → Sends m gap below old r n new → Sends (window h m) gap f old back (window h n) new
 sends_down h gap m n f below old new r back law below_is back_is sends =
     rw back_is (sends_above h gap m n f old new r law (subst (λ g. Sends m gap g old r n new) below_is sends))
+
+-- ---- a reset
+
+reset_above : (h : ℕ) (m n : Meaning) (r : Result (Unit {0}) (Fault ℕ)) (o : Option Refusal) → ResetJudged o m r n → ResetJudged o (window h m) r (window h n)
+reset_above h m n r (Some e) (answer, same) = (answer, ap (window h) same)
+reset_above h m n r None (answer, (free, t)) = (
+  answer,
+  (
+    record { strobe = free.strobe; byte = (window h n).byte },
+    record { part = part_above h m n t.part; state = t.state; bytes = λ a in_it. refl },
+  ),
+)
+
+pub resets_above : (h pulse : ℕ) (m n : Meaning) (r : Result (Unit {0}) (Fault ℕ)) → Resets m pulse r n → Resets (window h m) pulse r (window h n)
+resets_above h pulse m n r below = record { judged = reset_above h m n r (reset_refused m.kind m.state pulse) below.judged }

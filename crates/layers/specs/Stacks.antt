@@ -22,7 +22,7 @@ pub record LastAt (place : ℕ → ℕ) (d k : List ℕ) (i : ℕ) : Type 0 wher
 pub record ComesBack (hidden : ℕ) (key : List ℕ) (n : Meaning) (x v : ℕ) : Type 0 where
   pub above : (stack hidden key n).byte x ≡ v
   pub below : n.byte (x + shift hidden n.kind) ≡ bit_xor v (key_at key x)
-  pub back : (p : Meaning) (gap : ℕ) (c : Burst) (e l j : ℕ) (old new : List ℕ) → Sends (stack hidden key n) gap (read c e l) old (Ok Done) (stack hidden key p) new → j < l → address (stack hidden key n).kind n.state c e j ≡ x → holds (stack hidden key n).refreshes n.state p.state (read c e l) x ≡ true → slice_index new j ≡ v
+  pub back : (p : Meaning) (gap : ℕ) (c : Burst) (e l j : ℕ) (old new : List ℕ) → Sends (stack hidden key n) gap (read c e l) old (Ok Done) (stack hidden key p) new → j < l → address (stack hidden key n).kind n.state c e j ≡ x → holds (stack hidden key n) (stack hidden key p) (read c e l) x ≡ true → slice_index new j ≡ v
 
 -- of a write that is answered, the last unmasked byte to an address that is held over the write
 abbrev pub WrittenComesBack : Type 0
@@ -32,5 +32,5 @@ WrittenComesBack =
     → Sends (stack hidden key m) gap (write b a d k) old (Ok Done) (stack hidden key n) new
     → LastAt (address (stack hidden key m).kind m.state b a) d k i
     → address (stack hidden key m).kind m.state b a i ≡ x
-    → holds (stack hidden key m).refreshes m.state n.state (write b a d k) x ≡ true
+    → holds (stack hidden key m) (stack hidden key n) (write b a d k) x ≡ true
     → ComesBack hidden key n x (slice_index d i)

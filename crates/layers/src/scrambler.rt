@@ -102,6 +102,7 @@ impl<C: Chip> Chip for Scrambler<C> {
         }
     }
 
+    #[tactic(auto, using(crate::proofs::Scramblers::resets_above))]
     fn reset(&mut self, pulse: u32) -> Result<(), Fault> {
         self.chip.reset(pulse)
     }

@@ -93,6 +93,7 @@ impl<C: Chip> Chip for Window<C> {
             .map_err(|fault| fault.refusal.at(place))
     }
 
+    #[tactic(auto, using(crate::proofs::Windows::resets_above))]
     fn reset(&mut self, pulse: u32) -> Result<(), Fault> {
         self.chip.reset(pulse)
     }

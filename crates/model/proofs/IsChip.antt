@@ -7,12 +7,13 @@ use Rattle.std.specs.List.{range_with_len}
 use Rattle.fault.specs.declared.Fault.{Fault}
 use Rattle.fault.specs.declared.Refusal.{Refusal}
 use Rattle.mask.specs.Masks.{masked}
-use Rattle.chip.specs.Frames.{Sent, sent, read, write, register_read, register_write, global_reset, refused, Free, Allowed, after, address, written, stored, reply, Filled, Taken, Judged, Sends}
+use Rattle.chip.specs.Frames.{Sent, sent, read, write, register_read, register_write, global_reset, refused, Free, Allowed, after, address, written, stored, comes, answer_by, Filled, Taken, Judged, Sends}
 use Rattle.chip.specs.Meaning.{size}
+use Rattle.chip.specs.Resets.{reset_refused, ResetJudged, Resets}
 use Rattle.chip.specs.declared.parts.Frame.{Frame}
 use Rattle.chip.specs.declared.parts.Frame.TheVariants as frame
 use Rattle.chip.specs.declared.parts.Reply.{Reply}
-use Rattle.model.specs.Models.{Model, meaning, strobe_stays, latency, choice, put, store_after, taken, buffer_after, judged, Steps}
+use Rattle.model.specs.Models.{Model, meaning, strobe_stays, latency, choice, put, store_after, taken, buffer_after, judged, Steps, reset_judged, Restarts}
 use Rattle.model.specs.Wins.{LastWriteWins}
 
 -- ---- the store after a write
@@ -77,7 +78,7 @@ filled_read : (stays : Bool) (byte : ℕ → ℕ) (old : List ℕ) → MatchBool
 filled_read true byte old = (length-map-range_with_len byte 0 (length old), λ i h. get_or-map-range_with_len byte 0 (length old) i i 0 h (omega arith))
 filled_read false byte old = refl
 
-filled : (m : Model) (f : Frame) (old : List ℕ) → let s = sent f (length old) in Filled m.kind m.state (taken m s).state s (meaning (taken m s)).byte old (buffer_after m s old)
+filled : (m : Model) (f : Frame) (old : List ℕ) → let s = sent f (length old) in Filled m.kind m.state (comes (meaning (taken m s)) s) s (meaning (taken m s)).byte old (buffer_after m s old)
 filled m (frame.Read b a) old = filled_read (strobe_stays m) (λ i. get_or m.store (address m.kind m.state b a i) 0) old
 filled m (frame.Write b a d k) old = refl
 filled m (frame.RegisterRead n) old = refl
@@ -88,7 +89,7 @@ module _ (m : Model) (fr : Frame) (old : List ℕ) (whole : length m.store ≡ s
   abbrev f : Sent
   f = sent fr (length old)
 
-  takes : Taken (meaning m) f (does m f) old (reply m.kind m.state (taken m f).state f) (meaning (taken m f)) (buffer_after m f old)
+  takes : Taken (meaning m) f (does m f) old (answer_by m.kind m.state (comes (meaning (taken m f)) f) f) (meaning (taken m f)) (buffer_after m f old)
   takes = record {
     allowed = allowed m f;
     part = record { kind = refl; refreshes = refl };
@@ -107,6 +108,23 @@ module _ (m : Model) (fr : Frame) (old : List ℕ) (whole : length m.store ≡ s
   sends n gap new r steps = record {
     judged = judges n new r (refused m.kind m.state gap f) steps.model steps.answer steps.buffer;
   }
+
+-- ---- a reset
+
+reset_judges : (m n : Model) (r : Result (Unit {0}) (Fault ℕ)) (o : Option Refusal) → n ≡ (reset_judged o m).0 → r ≡ (reset_judged o m).1 → ResetJudged o (meaning m) r (meaning n)
+reset_judges m n r (Some e) model answer = (answer, ap meaning model)
+reset_judges m n r None model answer =
+    rw model (
+      answer,
+      (
+        record { strobe = true; byte = (meaning m).byte },
+        record { part = record { kind = refl; refreshes = refl }; state = refl; bytes = λ a in_it. refl },
+      ),
+    )
+
+pub resets : (m n : Model) (pulse : ℕ) (r : Result (Unit {0}) (Fault ℕ)) → Restarts m pulse r n → Resets (meaning m) pulse r (meaning n)
+resets m n pulse r restarts =
+    record { judged = reset_judges m n r (reset_refused m.kind m.state pulse) restarts.model restarts.answer }
 
 -- ---- the kind stays
 

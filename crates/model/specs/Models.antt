@@ -6,10 +6,9 @@ use Rattle.fault.specs.Refusals.{fault_at}
 use Rattle.fault.specs.declared.Fault.{Fault}
 use Rattle.fault.specs.declared.Refusal.{Refusal}
 use Rattle.fault.specs.declared.Refusal.TheVariants.{TooSoon, BadStart, BadCount, TooLong, BadRegister}
-use Rattle.frame.specs.Low as low
 use Rattle.mask.specs.Masks.{masked}
 use Rattle.register.specs.Registers.{mr0, kept}
-use Rattle.chip.specs.Frames.{Sent, read, write, register_read, register_write, global_reset, place, carries, least_gap, bad_start, bad_count, too_long, bad_register, first, refused, fixed, Free, after, address, reply}
+use Rattle.chip.specs.Frames.{Sent, read, write, register_read, register_write, global_reset, place, low_for, least_gap, bad_start, bad_count, too_long, bad_register, first, refused, fixed, Free, after, address, comes, answer_by}
 use Rattle.chip.specs.Meaning.{Meaning, size, read_latency}
 use Rattle.chip.specs.Resets.{reset_refused, after_pulse}
 use Rattle.chip.specs.declared.parts.Kind.{Kind}
@@ -126,7 +125,7 @@ unfit k s gap f =
 
 -- the low clocks of a frame that is taken
 abbrev pub low_clocks : Model → Sent → ℕ
-low_clocks m f = low.low_clocks (carries m.state f (latency m))
+low_clocks m f = low_for m.state f (latency m)
 
 abbrev pub taken : Model → Sent → Model
 taken m f = record {
@@ -157,7 +156,7 @@ abbrev pub judged : Option Refusal → Model → Sent → List ℕ → Outcome
 judged (Some e) m f old = record { model = m; answer = Err (fault_at e (place f)); buffer = old }
 judged None m f old = record {
   model = taken m f;
-  answer = reply m.kind m.state (after m.kind m.state f (choice m)) f;
+  answer = answer_by m.kind m.state (comes (meaning (taken m f)) f) f;
   buffer = buffer_after m f old;
 }
 
