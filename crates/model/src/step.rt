@@ -14,6 +14,17 @@ use frame::Burst;
 use mask::masked;
 use register::{LatencyType, Mr0, on_wire};
 
+// What of the next frame a model chooses.
+#[derive(Clone, Copy)]
+pub(crate) struct Choice {
+    // the strobe is there once the frame has started
+    pub strobe: bool,
+    // a read would be of variable latency, and find the strobe
+    pub varies: bool,
+    // the latency of a read
+    pub latency: u32,
+}
+
 impl Device {
     // The latency that MR0 holds.
     pub(crate) fn lc(&self) -> Latency
@@ -22,31 +33,24 @@ impl Device {
         Mr0::from(self.state.mr0).lc
     }
 
-    // Whether the strobe is there once a frame has started: it goes when as many reads are
-    // answered as the strobe count says.
-    pub(crate) fn strobe_stays(&self) -> bool
-        ensures { result ≡ strobe_stays (inside self.now) }
+    // Which strobe and which latency come with the next frame, by the refresh word and the counts:
+    // the strobe goes when as many reads are answered as the strobe count says, and a variable
+    // read takes LC where its bit of the word is clear.
+    pub(crate) fn choice(&self) -> Choice
+        ensures strobe { result.strobe ≡ strobe_stays (inside self.now) }
+        ensures varies { result.varies ≡ variable (inside self.now) }
+        ensures latency { result.latency ≡ latency (inside self.now) }
     {
-        self.state.strobe && (self.strobes == 0 || self.answered < u32::from(self.strobes))
-    }
-
-    // Whether a read now would be one of variable latency.
-    pub(crate) fn variable(&self) -> bool
-        ensures { result ≡ variable (inside self.now) }
-    {
-        self.strobe_stays() && matches!(Mr0::from(self.state.mr0).kind, LatencyType::Variable)
-    }
-
-    // The latency of a read now.
-    fn latency(&self) -> u32
-        ensures { result ≡ latency (inside self.now) }
-    {
+        let strobe = self.state.strobe
+            && (self.strobes == 0 || self.answered < u32::from(self.strobes));
+        let varies = strobe && matches!(Mr0::from(self.state.mr0).kind, LatencyType::Variable);
         let least = self.lc().clocks();
         let clear = (self.word >> self.turn) % 2 == 0;
-        if self.variable() && clear {
-            least
-        } else {
-            2 * least
+        let latency = if varies && clear { least } else { 2 * least };
+        Choice {
+            strobe,
+            varies,
+            latency,
         }
     }
 
@@ -55,13 +59,14 @@ impl Device {
         ensures strobe { result ≡ strobe_stays (inside self.old) }
         ensures state { inside self.new ≡ with_state (inside self.old) (counted self.old.state (low_clocks (inside self.old) (as_sent f.entry)) (strobe_stays (inside self.old))) }
     {
-        let low = self.carries(f, self.latency()).low_clocks();
-        self.state.strobe = self.strobe_stays();
+        let choice = self.choice();
+        let low = self.carries(f, choice.latency).low_clocks();
+        self.state.strobe = choice.strobe;
         self.state.settling = false;
         self.state.low = low;
         self.state.frames = self.state.frames.saturating_add(1);
         self.state.clocks = self.state.clocks.saturating_add(low);
-        self.state.strobe
+        choice.strobe
     }
 
     // A read was answered; `varies` says that its latency was variable.

@@ -26,7 +26,7 @@ impl Device {
                 self.admit(gap, f)?;
                 self.state = State {
                     phase: Phase::Awake,
-                    strobe: self.strobe_stays(),
+                    strobe: self.choice().strobe,
                     settling: true,
                     low: Transfer::GlobalReset.low_clocks(),
                     ..asleep(self.kind.make)
@@ -37,7 +37,7 @@ impl Device {
             }
             (Phase::Awake, Frame::Read { burst, start }) => {
                 self.admit(gap, f)?;
-                let varies = self.variable();
+                let varies = self.choice().varies;
                 if !self.count(f) {
                     return Err(Refusal::NoStrobe(0).at(start));
                 }
