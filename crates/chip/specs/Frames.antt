@@ -120,18 +120,23 @@ unfoldable pub first : List (Bool × Refusal) → Option Refusal
 first [] = None
 first ((test, refusal) ∷ rest) = cond test (Some refusal) (first rest)
 
--- 13 to 18, in this order
-abbrev pub refused : Kind → State → ℕ → Sent → Option Refusal
-refused k s gap f =
-    first (
-    (not (takes s.phase (wakes f)), WrongPhase)
-    ∷ (nat_lt gap (least_gap k s), TooSoon)
+-- 14 to 18, in this order
+abbrev pub tests : Kind → State → ℕ → Sent → List (Bool × Refusal)
+tests k s gap f =
+    (nat_lt gap (least_gap k s), TooSoon)
     ∷ (bad_start k f, BadStart)
     ∷ (bad_count f, BadCount)
     ∷ (too_long k s f, TooLong)
     ∷ (bad_register f, BadRegister)
     ∷ []
-    )
+
+-- what refuses a frame that the phase takes
+abbrev pub unfit : Kind → State → ℕ → Sent → Option Refusal
+unfit k s gap f = first (tests k s gap f)
+
+-- 13 to 18, in this order
+abbrev pub refused : Kind → State → ℕ → Sent → Option Refusal
+refused k s gap f = first ((not (takes s.phase (wakes f)), WrongPhase) ∷ tests k s gap f)
 
 -- ---- what a frame that is taken leaves free
 
@@ -210,12 +215,16 @@ woken k low strobe = record {
   clocks = 0;
 }
 
+-- a frame of so many low clocks is over
+abbrev pub ended : Kind → State → Sent → ℕ → Bool → State
+ended k s (read b a n) low strobe = counted s low strobe
+ended k s (write b a d m) low strobe = counted s low strobe
+ended k s (register_read n) low strobe = counted s low strobe
+ended k s (register_write n v) low strobe = counted (with_register s n v) low strobe
+ended k s global_reset low strobe = woken k low strobe
+
 abbrev pub after : Kind → State → Sent → Free → State
-after k s (read b a n) f = counted s (low_for s (read b a n) f.latency) f.strobe
-after k s (write b a d m) f = counted s (low_for s (write b a d m) f.latency) f.strobe
-after k s (register_read n) f = counted s (low_for s (register_read n) f.latency) f.strobe
-after k s (register_write n v) f = counted (with_register s n v) (low_for s (register_write n v) f.latency) f.strobe
-after k s global_reset f = woken k (low_for s global_reset f.latency) f.strobe
+after k s f free = ended k s f (low_for s f free.latency) free.strobe
 
 -- byte i of a burst, as it is on the wire
 abbrev pub address : Kind → State → Burst → ℕ → ℕ → ℕ

@@ -3,6 +3,7 @@
 #![tactic(auto)]
 
 mod interface;
+mod judge;
 mod laws;
 mod parts;
 

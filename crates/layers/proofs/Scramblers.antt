@@ -80,21 +80,13 @@ module _ (key : List ℕ) (m : Meaning) (g f : Sent) where
     pub answers : (n : Meaning) → answer_by m.kind m.state (comes n g) g ≡ answer_by m.kind m.state (comes n f) f
     pub placed : place g ≡ place f
 
-after_mixed : (key : List ℕ) (k : Kind) (s : State) (f : Sent) (free : Free) → after k s f free ≡ after k s f (free_mixed key free)
-unfolding free_mixed
-after_mixed key k s (read b a n) free = refl
-after_mixed key k s (write b a d m) free = refl
-after_mixed key k s (register_read n) free = refl
-after_mixed key k s (register_write n v) free = refl
-after_mixed key k s global_reset free = refl
-
 module _ (key : List ℕ) (m n : Meaning) (g f : Sent) (stands : Stands key m g f) (old mid new : List ℕ) (r : Result Reply (Fault ℕ)) where
   taken_above : (free : Free) → Filled m.kind m.state (comes n f) f (scrambler key n).byte old new → Taken m g free old r n mid → Taken (scrambler key m) f (free_mixed key free) old r (scrambler key n) new
   unfolding free_mixed
   taken_above free full t = record {
     allowed = record { strobe = t.allowed.strobe; latency = t.allowed.latency };
     part = record { kind = t.part.kind; refreshes = t.part.refreshes };
-    state = t.state ∙ stands.leaves free ∙ after_mixed key m.kind m.state f free;
+    state = t.state ∙ stands.leaves free;
     bytes = λ a in_it.
         byte_mixed _ (n.byte a) _ _ (free.byte a) (key_at key a) (t.bytes a in_it) (stands.stores a (m.byte a))
         ∙ ap (λ h. cond h (stored m.kind m.state f a (bit_xor (m.byte a) (key_at key a))) (bit_xor (free.byte a) (key_at key a))) (stands.keeps n a);

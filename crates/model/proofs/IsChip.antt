@@ -7,13 +7,13 @@ use Rattle.std.specs.List.{range_with_len}
 use Rattle.fault.specs.declared.Fault.{Fault}
 use Rattle.fault.specs.declared.Refusal.{Refusal}
 use Rattle.mask.specs.Masks.{masked}
-use Rattle.chip.specs.Frames.{Sent, sent, read, write, register_read, register_write, global_reset, refused, Free, Allowed, after, address, written, stored, comes, answer_by, Filled, Taken, Judged, Sends}
+use Rattle.chip.specs.Frames.{Sent, sent, read, write, register_read, register_write, global_reset, refused, Free, Allowed, address, written, stored, comes, answer_by, Filled, Taken, Judged, Sends}
 use Rattle.chip.specs.Meaning.{size}
 use Rattle.chip.specs.Resets.{reset_refused, ResetJudged, Resets}
 use Rattle.chip.specs.declared.parts.Frame.{Frame}
 use Rattle.chip.specs.declared.parts.Frame.TheVariants as frame
 use Rattle.chip.specs.declared.parts.Reply.{Reply}
-use Rattle.model.specs.Models.{Model, meaning, strobe_stays, latency, choice, put, store_after, taken, buffer_after, judged, Steps, reset_judged, Restarts}
+use Rattle.model.specs.Models.{Model, meaning, strobe_stays, latency, put, store_after, taken, buffer_after, judged, Steps, reset_judged, Restarts}
 use Rattle.model.specs.Wins.{LastWriteWins}
 
 -- ---- the store after a write
@@ -60,13 +60,6 @@ allowed m f = record {
   latency = record { least = grind (arith, common_steps); most = grind (arith, common_steps); full = λ is. grind (arith, common_steps) };
 }
 
-after_does : (m : Model) (f : Sent) → after m.kind m.state f (choice m) ≡ after m.kind m.state f (does m f)
-after_does m (read b a n) = refl
-after_does m (write b a d k) = refl
-after_does m (register_read n) = refl
-after_does m (register_write n v) = refl
-after_does m global_reset = refl
-
 stored_after : (m : Model) (f : Sent) (a : ℕ) → a < length m.store → get_or (store_after m f) a 0 ≡ stored m.kind m.state f a (get_or m.store a 0)
 stored_after m (read b s n) a in_it = refl
 stored_after m (write b s d k) a in_it = put_written (address m.kind m.state b s) d k m.store (length d) a in_it
@@ -93,7 +86,7 @@ module _ (m : Model) (fr : Frame) (old : List ℕ) (whole : length m.store ≡ s
   takes = record {
     allowed = allowed m f;
     part = record { kind = refl; refreshes = refl };
-    state = after_does m f;
+    state = refl;
     bytes = λ a in_it. cond_both _ _ _ (λ x. get_or (store_after m f) a 0 ≡ x) (λ _. stored_after m f a (omega arith)) (λ _. refl);
     answer = refl;
     buffer = filled m fr old;

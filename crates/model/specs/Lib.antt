@@ -1,4 +1,3 @@
 pub mod Models
 pub mod Fresh
 pub mod Wins
-pub mod Sents

@@ -1,14 +1,13 @@
 -- What a model does, exactly. Assumes nothing.
-use Rattle.std.specs.Prelude.{◌≡◌, ℕ, zero, suc, ◌+◌, ◌-◌, ◌*◌, ◌/◌, ◌%◌, ◌^◌, min, Bool, true, cond, not, ◌&&◌, ◌||◌, List, [], ◌∷◌, map, length, Some, None, Ok, Err, vec_items, Option, Result, ◌==◌, nat_le, nat_lt, slice_index, slice_set}
+use Rattle.std.specs.Prelude.{◌≡◌, ℕ, zero, suc, ◌+◌, ◌-◌, ◌*◌, ◌/◌, ◌%◌, ◌^◌, min, Bool, true, cond, not, ◌&&◌, ◌||◌, List, map, length, Some, None, Ok, Err, vec_items, Option, Result, ◌==◌, nat_le, nat_lt, slice_index, slice_set}
 use Rattle.std.specs.List.{range_with_len}
 use Rattle.clock.specs.Times.{clocks}
 use Rattle.fault.specs.Refusals.{fault_at}
 use Rattle.fault.specs.declared.Fault.{Fault}
 use Rattle.fault.specs.declared.Refusal.{Refusal}
-use Rattle.fault.specs.declared.Refusal.TheVariants.{TooSoon, BadStart, BadCount, TooLong, BadRegister}
 use Rattle.mask.specs.Masks.{masked}
 use Rattle.register.specs.Registers.{mr0, kept}
-use Rattle.chip.specs.Frames.{Sent, read, write, register_read, register_write, global_reset, place, low_for, least_gap, bad_start, bad_count, too_long, bad_register, first, refused, fixed, Free, after, address, comes, answer_by}
+use Rattle.chip.specs.Frames.{Sent, read, write, register_read, register_write, global_reset, place, refused, fixed, Free, after, address, comes, answer_by}
 use Rattle.chip.specs.Meaning.{Meaning, size, read_latency}
 use Rattle.chip.specs.Resets.{reset_refused, after_pulse}
 use Rattle.chip.specs.declared.parts.Kind.{Kind}
@@ -110,22 +109,6 @@ answered_after m (register_write n v) = m.answered
 answered_after m global_reset = 0
 
 -- ---- one frame
-
--- 14 to 18, in this order: what refuses a frame that the phase takes
-abbrev pub unfit : Kind → State → ℕ → Sent → Option Refusal
-unfit k s gap f =
-    first (
-    (nat_lt gap (least_gap k s), TooSoon)
-    ∷ (bad_start k f, BadStart)
-    ∷ (bad_count f, BadCount)
-    ∷ (too_long k s f, TooLong)
-    ∷ (bad_register f, BadRegister)
-    ∷ []
-    )
-
--- the low clocks of a frame that is taken
-abbrev pub low_clocks : Model → Sent → ℕ
-low_clocks m f = low_for m.state f (latency m)
 
 abbrev pub taken : Model → Sent → Model
 taken m f = record {

@@ -3,7 +3,6 @@
 
 mod asks;
 mod device;
-mod judge;
 mod make;
 mod models;
 mod step;

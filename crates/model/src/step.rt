@@ -3,11 +3,9 @@ ghost use Rattle.std.specs.Prelude.{◌≡◌, ◌+◌, ◌-◌, ◌%◌, ◌^�
 ghost use Rattle.std.specs.List.{range_with_len};
 ghost use Rattle.chip.specs.Frames.{address, counted, register, with_register};
 ghost use Rattle.chip.specs.Meaning.{size, read_latency};
-ghost use Rattle.model.specs.Models.{inside, with_state, with_counts, with_store, strobe_stays, variable, latency, low_clocks, put};
-ghost use Rattle.model.specs.Sents.{as_sent};
+ghost use Rattle.model.specs.Models.{inside, with_state, with_counts, with_store, strobe_stays, variable, latency, put};
 
 use crate::device::Device;
-use crate::judge::Sent;
 use crate::make::reset_value;
 use clock::Latency;
 use frame::Burst;
@@ -54,19 +52,15 @@ impl Device {
         }
     }
 
-    // A frame that is taken is counted. Whether the strobe is there.
-    pub(crate) fn count(&mut self, f: Sent<'_>) -> bool
-        ensures strobe { result ≡ strobe_stays (inside self.old) }
-        ensures state { inside self.new ≡ with_state (inside self.old) (counted self.old.state (low_clocks (inside self.old) (as_sent f.entry)) (strobe_stays (inside self.old))) }
+    // A frame of so many low clocks is over: it counts, and no wait is due any more.
+    pub(crate) fn count(&mut self, low: u64, strobe: bool)
+        ensures { inside self.new ≡ with_state (inside self.old) (counted self.old.state low strobe) }
     {
-        let choice = self.choice();
-        let low = self.carries(f, choice.latency).low_clocks();
-        self.state.strobe = choice.strobe;
+        self.state.strobe = strobe;
         self.state.settling = false;
         self.state.low = low;
         self.state.frames = self.state.frames.saturating_add(1);
         self.state.clocks = self.state.clocks.saturating_add(low);
-        choice.strobe
     }
 
     // A read was answered; `varies` says that its latency was variable.

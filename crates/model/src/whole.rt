@@ -4,31 +4,29 @@ ghost use Rattle.chip.specs.Frames.{sent};
 ghost use Rattle.model.specs.Models.{inside, Steps, Restarts};
 
 use crate::device::Device;
-use crate::judge::Sent;
 use crate::make::asleep;
 use chip::{Frame, Phase, Reply, State};
 use fault::{Fault, Refusal};
-use frame::Transfer;
 
 impl Device {
     // Sends one frame: what it does depends on the phase and the frame together.
     pub fn send(&mut self, gap: u32, frame: Frame<'_>, buffer: &mut [u8]) -> Result<Reply, Fault>
         ensures { Steps (inside self.old) gap (sent frame.entry (length buffer.old)) buffer.old result (inside self.new) buffer.new }
     {
-        let f = Sent {
-            frame,
-            room: buffer.len(),
-        };
-        // each arm admits the frame itself: the phase is judged before all else, by the arms
+        let room = buffer.len();
+        // the phase is judged before all else, by the arms
+        let judged = frame.judge(self.kind, self.state, gap, room);
+        let choice = self.choice();
+        let low = frame.low_clocks(self.state, room, choice.latency);
         match (self.state.phase, frame) {
             // the registers are those of the table, and counting begins
             (Phase::Unwoken, Frame::GlobalReset) => {
-                self.admit(gap, f)?;
+                judged?;
                 self.state = State {
                     phase: Phase::Awake,
-                    strobe: self.choice().strobe,
+                    strobe: choice.strobe,
                     settling: true,
-                    low: Transfer::GlobalReset.low_clocks(),
+                    low,
                     ..asleep(self.kind.make)
                 };
                 self.turn = 0;
@@ -36,13 +34,13 @@ impl Device {
                 Ok(Reply::Done)
             }
             (Phase::Awake, Frame::Read { burst, start }) => {
-                self.admit(gap, f)?;
-                let varies = self.choice().varies;
-                if !self.count(f) {
+                judged?;
+                self.count(low, choice.strobe);
+                if !choice.strobe {
                     return Err(Refusal::NoStrobe(0).at(start));
                 }
                 self.fill(burst, start, buffer);
-                self.answer(varies);
+                self.answer(choice.varies);
                 Ok(Reply::Done)
             }
             (
@@ -54,22 +52,23 @@ impl Device {
                     mask,
                 },
             ) => {
-                self.admit(gap, f)?;
-                self.count(f);
+                judged?;
+                self.count(low, choice.strobe);
                 self.put(burst, start, data, mask);
                 Ok(Reply::Done)
             }
             (Phase::Awake, Frame::RegisterRead { number }) => {
-                self.admit(gap, f)?;
-                if !self.count(f) {
+                judged?;
+                self.count(low, choice.strobe);
+                if !choice.strobe {
                     return Err(Refusal::NoStrobe(0).at(0));
                 }
                 self.answer(false);
                 Ok(Reply::Register(self.register(number)))
             }
             (Phase::Awake, Frame::RegisterWrite { number, value }) => {
-                self.admit(gap, f)?;
-                self.count(f);
+                judged?;
+                self.count(low, choice.strobe);
                 self.set_register(number, value);
                 Ok(Reply::Done)
             }
