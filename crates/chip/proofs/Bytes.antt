@@ -4,7 +4,7 @@ use Rattle.std.proofs.lemmas.Bool.{eqb-true, cond-true, and_from, false_from_ne_
 use Rattle.fault.specs.declared.Fault.{Fault}
 use Rattle.fault.specs.declared.Refusal.{Refusal}
 use Rattle.mask.specs.Masks.{masked}
-use Rattle.chip.specs.Frames.{Sent, read, write, register_read, register_write, global_reset, wakes, address, written, stored, holds, Free, Taken, Judged}
+use Rattle.chip.specs.Frames.{Sent, read, write, register_read, register_write, global_reset, wakes, address, written, stored, holds, FreeByFrame, Taken, Judged}
 use Rattle.chip.specs.Meaning.{Meaning, size}
 use Rattle.chip.specs.Resets.{ResetJudged}
 use Rattle.chip.specs.Runs.{Event, sending, resetting, Does, still, onward, Safe, Reaches, Spares, ChangedByWritesOnly}
@@ -37,7 +37,7 @@ held_by m n f a never before after =
     and_from _ _ (ap not never) (and_from _ _ after.strobe (and_from _ _ before.covered after.covered))
 
 module _ (m n : Meaning) (a : ℕ) (in_it : a < size m.kind) (before : Safe m a) (after : Safe n a) where
-  taken_spares : (f : Sent) (free : Free) (old new : List ℕ) (r : Result Reply (Fault ℕ)) → wakes f ≡ false → (Reaches m f a → ⊥) → Taken m f free old r n new → n.byte a ≡ m.byte a
+  taken_spares : (f : Sent) (free : FreeByFrame) (old new : List ℕ) (r : Result Reply (Fault ℕ)) → wakes f ≡ false → (Reaches m f a → ⊥) → Taken m f free old r n new → n.byte a ≡ m.byte a
   taken_spares f free old new r never miss t =
       t.bytes a in_it
       ∙ cond-true _ _ _ (held_by m n f a never before after)

@@ -4,7 +4,7 @@ use Rattle.std.proofs.lemmas.Bool.{false_from_ne_true}
 use Rattle.fault.specs.declared.Fault.{Fault}
 use Rattle.fault.specs.declared.Refusal.{Refusal}
 use Rattle.frame.specs.Low.{held}
-use Rattle.chip.specs.Frames.{Sent, read, write, register_read, register_write, global_reset, wakes, Free, after, Judged}
+use Rattle.chip.specs.Frames.{Sent, read, write, register_read, register_write, global_reset, wakes, FreeByFrame, after, Judged}
 use Rattle.chip.specs.Meaning.{Meaning}
 use Rattle.chip.specs.Resets.{ResetJudged}
 use Rattle.chip.specs.Runs.{Event, sending, resetting, Does, Wake, still, onward, unless_refused, frames_in, clocks_in, CountsFit, Risen, CountsRiseByWhatWasSent}
@@ -25,14 +25,14 @@ held_twice x y z a b p q = omega arith
 
 -- ---- one event
 
-after_frames : (k : Kind) (s : State) (f : Sent) (free : Free) → wakes f ≡ false → (after k s f free).frames ≡ held (s.frames + 1)
+after_frames : (k : Kind) (s : State) (f : Sent) (free : FreeByFrame) → wakes f ≡ false → (after k s f free).frames ≡ held (s.frames + 1)
 after_frames k s (read b a n) free never = refl
 after_frames k s (write b a d m) free never = refl
 after_frames k s (register_read n) free never = refl
 after_frames k s (register_write n v) free never = refl
 after_frames k s global_reset free never = cc
 
-after_clocks : (k : Kind) (s : State) (f : Sent) (free : Free) → wakes f ≡ false → (after k s f free).clocks ≡ held (s.clocks + (after k s f free).low)
+after_clocks : (k : Kind) (s : State) (f : Sent) (free : FreeByFrame) → wakes f ≡ false → (after k s f free).clocks ≡ held (s.clocks + (after k s f free).low)
 after_clocks k s (read b a n) free never = refl
 after_clocks k s (write b a d m) free never = refl
 after_clocks k s (register_read n) free never = refl

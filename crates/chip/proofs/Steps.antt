@@ -5,7 +5,7 @@ use Rattle.fault.specs.Refusals.{account, fault_at}
 use Rattle.fault.specs.declared.Fault.{Fault}
 use Rattle.fault.specs.declared.Refusal.{Refusal}
 use Rattle.fault.specs.declared.Refusal.TheVariants.{NoStrobe}
-use Rattle.chip.specs.Frames.{Sent, read, write, register_read, register_write, global_reset, place, after, Free, SamePart, Taken, Judged}
+use Rattle.chip.specs.Frames.{Sent, read, write, register_read, register_write, global_reset, place, after, FreeByFrame, SamePart, Taken, Judged}
 use Rattle.chip.specs.Meaning.{Meaning}
 use Rattle.chip.specs.Resets.{ResetJudged}
 use Rattle.chip.specs.Runs.{Event, sending, resetting, Does, Restart, Step, Runs, still, onward, Each, RefusedLeaves, RefusedLeavesEverything, err, StrobeReturnsByResetAlone, PartNeverChanges}
@@ -51,7 +51,7 @@ lost : (b : Bool) (x : Reply) (a : ℕ) (y : Fault ℕ) → Err y ≡ cond b (Ok
 lost true x a y e = cc
 lost false x a y e = cc
 
-pub only_19 : {m n : Meaning} {free : Free} {old new : List ℕ} (f : Sent) (y : Fault ℕ) → Taken m f free old (Err y) n new → y.refusal ≡ NoStrobe 0
+pub only_19 : {m n : Meaning} {free : FreeByFrame} {old new : List ℕ} (f : Sent) (y : Fault ℕ) → Taken m f free old (Err y) n new → y.refusal ≡ NoStrobe 0
 only_19 f y t = lost _ _ _ y t.answer
 
 judged_fault : (o : Option Refusal) (m n : Meaning) (f : Sent) (old new : List ℕ) (r : Result Reply (Fault ℕ)) (x : Refusal) → o ≡ Some x → Judged o m f old r n new → err r ≡ Some (fault_at x (place f))
@@ -104,7 +104,7 @@ refused_leaves_everything = each RefusedLeaves refused_leaves
 
 -- ---- the strobe returns by a reset alone
 
-after_strobe : (k : Kind) (s : State) (f : Sent) (free : Free) → (after k s f free).strobe ≡ free.strobe
+after_strobe : (k : Kind) (s : State) (f : Sent) (free : FreeByFrame) → (after k s f free).strobe ≡ free.strobe
 after_strobe k s (read b a n) free = refl
 after_strobe k s (write b a d m) free = refl
 after_strobe k s (register_read n) free = refl

@@ -29,7 +29,7 @@ use Rattle.chip.specs.declared.parts.State.{State}
 
 -- ---- what is sent
 
--- a frame, with its data and mask as lists; the number of a read is its buffer's length
+-- a frame, with its data and mask as lists; the count of a read is its buffer's length
 pub data Sent : Type 0 where
   read : Burst → ℕ → ℕ → Sent
   write : Burst → ℕ → List ℕ → List ℕ → Sent
@@ -39,28 +39,28 @@ pub data Sent : Type 0 where
 
 abbrev pub sent : Frame → ℕ → Sent
 sent (frame.Read b a) n = read b a n
-sent (frame.Write b a d k) n = write b a d.now k.now
-sent (frame.RegisterRead k) n = register_read k
-sent (frame.RegisterWrite k v) n = register_write k v
+sent (frame.Write b a d m) n = write b a d.now m.now
+sent (frame.RegisterRead r) n = register_read r
+sent (frame.RegisterWrite r v) n = register_write r v
 sent frame.GlobalReset n = global_reset
 
 -- the place of a fault: the start of a memory frame, else 0
 abbrev pub place : Sent → ℕ
 place (read b a n) = a
-place (write b a d k) = a
-place (register_read k) = 0
-place (register_write k v) = 0
+place (write b a d m) = a
+place (register_read r) = 0
+place (register_write r v) = 0
 place global_reset = 0
 
 -- what goes over the bus, a read with this latency
 abbrev pub carries : State → Sent → ℕ → Transfer
 carries s (read b a n) l = transfer.Read l n
-carries s (write b a d k) l = transfer.Write (write_latency s) (length d)
-carries s (register_read k) l = transfer.RegisterRead (read_latency s)
-carries s (register_write k v) l = transfer.RegisterWrite
+carries s (write b a d m) l = transfer.Write (write_latency s) (length d)
+carries s (register_read r) l = transfer.RegisterRead (read_latency s)
+carries s (register_write r v) l = transfer.RegisterWrite
 carries s global_reset l = transfer.GlobalReset
 
--- how long CE# is low for it
+-- the low clocks of a frame, a read with this latency
 abbrev pub low_for : State → Sent → ℕ → ℕ
 low_for s f l = low_clocks (carries s f l)
 
@@ -68,9 +68,9 @@ low_for s f l = low_clocks (carries s f l)
 
 abbrev pub wakes : Sent → Bool
 wakes (read b a n) = false
-wakes (write b a d k) = false
-wakes (register_read k) = false
-wakes (register_write k v) = false
+wakes (write b a d m) = false
+wakes (register_read r) = false
+wakes (register_write r v) = false
 wakes global_reset = true
 
 -- unwoken, a chip takes only a global reset; awake, everything else
@@ -99,20 +99,20 @@ bad_start k global_reset = false
 -- no bytes, or a write of an odd number of bytes or unlike its mask
 abbrev pub bad_count : Sent → Bool
 bad_count (read b a n) = n == 0
-bad_count (write b a d k) = length d == 0 || (length d % 2 == 1 || not (length k == mask.size (length d)))
-bad_count (register_read k) = false
-bad_count (register_write k v) = false
+bad_count (write b a d m) = length d == 0 || (length d % 2 == 1 || not (length m == mask.size (length d)))
+bad_count (register_read r) = false
+bad_count (register_write r v) = false
 bad_count global_reset = false
 
--- the low clocks exceed tCEM; a read may always come to take twice its latency
+-- the low clocks exceed tCEM, a read counted with 2 LC in either latency type
 abbrev pub too_long : Kind → State → Sent → Bool
 too_long k s f = nat_lt k.clock.tcem (low_for s f (2 * clocks (read_latency s)))
 
 abbrev pub bad_register : Sent → Bool
 bad_register (read b a n) = false
-bad_register (write b a d k) = false
-bad_register (register_read k) = not (readable k)
-bad_register (register_write k v) = not (accepts k v)
+bad_register (write b a d m) = false
+bad_register (register_read r) = not (readable r)
+bad_register (register_write r v) = not (accepts r v)
 bad_register global_reset = false
 
 -- the first test that holds
@@ -140,12 +140,12 @@ refused k s gap f = first ((not (takes s.phase (wakes f)), WrongPhase) ∷ tests
 
 -- ---- what a frame that is taken leaves free
 
-pub record Free : Type 0 where
+pub record FreeByFrame : Type 0 where
   -- the strobe is there once the frame has started
   pub strobe : Bool
   -- the latency, of a read
   pub latency : ℕ
-  -- the bytes that nothing holds
+  -- the bytes that are not held
   pub byte : ℕ → ℕ
 
 abbrev pub fixed : LatencyType → Bool
@@ -158,27 +158,29 @@ pub record LatencyAllowed (s : State) (strobe : Bool) (l : ℕ) : Type 0 where
   pub most : l ≤ 2 * clocks (read_latency s)
   pub full : (fixed (mr0 s.mr0).kind || not strobe) ≡ true → l ≡ 2 * clocks (read_latency s)
 
-pub record Allowed (s : State) (f : Free) : Type 0 where
+-- what it may be
+pub record Allowed (s : State) (free : FreeByFrame) : Type 0 where
   -- no frame brings the strobe back
-  pub strobe : f.strobe ≡ true → s.strobe ≡ true
-  pub latency : LatencyAllowed s f.strobe f.latency
+  pub strobe : free.strobe ≡ true → s.strobe ≡ true
+  pub latency : LatencyAllowed s free.strobe free.latency
 
 -- ---- what a frame that is taken does
 
 -- what a register holds after wake or reset
 abbrev pub reset_value : Make → ℕ → ℕ
-reset_value m n = unwrap_or (after_reset m n) 0
+reset_value m r = unwrap_or (after_reset m r) 0
 
+-- what a register holds
 abbrev pub register : Kind → State → ℕ → ℕ
-register k s n =
-    cond (n == 0) s.mr0 (cond (n == 4) s.mr4 (cond (n == 8) s.mr8 (reset_value k.make n)))
+register k s r =
+    cond (r == 0) s.mr0 (cond (r == 4) s.mr4 (cond (r == 8) s.mr8 (reset_value k.make r)))
 
 -- a register is written
 abbrev pub with_register : State → ℕ → ℕ → State
-with_register s n v = record {
-  mr0 = cond (n == 0) v s.mr0;
-  mr4 = cond (n == 4) v s.mr4;
-  mr8 = cond (n == 8) v s.mr8;
+with_register s r v = record {
+  mr0 = cond (r == 0) v s.mr0;
+  mr4 = cond (r == 4) v s.mr4;
+  mr8 = cond (r == 8) v s.mr8;
   phase = s.phase;
   strobe = s.strobe;
   settling = s.settling;
@@ -187,7 +189,7 @@ with_register s n v = record {
   clocks = s.clocks;
 }
 
--- a frame of so many low clocks is over: it counts, and no wait is due any more
+-- a frame of so many low clocks counts, and no wait is due any more
 abbrev pub counted : State → ℕ → Bool → State
 counted s low strobe = record {
   mr0 = s.mr0;
@@ -201,7 +203,7 @@ counted s low strobe = record {
   clocks = held (s.clocks + low);
 }
 
--- a wake of so many low clocks is over: the registers are those of the table, the wait is due, and counting begins
+-- a wake of so many low clocks: the registers are those of the table, the wait is due, and counting begins
 abbrev pub woken : Kind → ℕ → Bool → State
 woken k low strobe = record {
   mr0 = reset_value k.make 0;
@@ -215,15 +217,16 @@ woken k low strobe = record {
   clocks = 0;
 }
 
--- a frame of so many low clocks is over
+-- the state after a frame of so many low clocks
 abbrev pub ended : Kind → State → Sent → ℕ → Bool → State
 ended k s (read b a n) low strobe = counted s low strobe
 ended k s (write b a d m) low strobe = counted s low strobe
-ended k s (register_read n) low strobe = counted s low strobe
-ended k s (register_write n v) low strobe = counted (with_register s n v) low strobe
+ended k s (register_read r) low strobe = counted s low strobe
+ended k s (register_write r v) low strobe = counted (with_register s r v) low strobe
 ended k s global_reset low strobe = woken k low strobe
 
-abbrev pub after : Kind → State → Sent → Free → State
+-- the state after a frame that is taken
+abbrev pub after : Kind → State → Sent → FreeByFrame → State
 after k s f free = ended k s f (low_for s f free.latency) free.strobe
 
 -- byte i of a burst, as it is on the wire
@@ -235,64 +238,65 @@ abbrev pub written : (ℕ → ℕ) → List ℕ → List ℕ → ℕ → ℕ →
 written place d m zero a old = old
 written place d m (suc i) a old = cond (place i == a && not (mask.masked m i)) (slice_index d i) (written place d m i a old)
 
+-- what an address holds after a frame over which it is held
 abbrev pub stored : Kind → State → Sent → ℕ → ℕ → ℕ
 stored k s (read b a n) x old = old
 stored k s (write b a d m) x old = written (address k s b a) d m (length d) x old
-stored k s (register_read n) x old = old
-stored k s (register_write n v) x old = old
+stored k s (register_read r) x old = old
+stored k s (register_write r v) x old = old
 stored k s global_reset x old = old
 
 -- a byte is held over the frame: refreshed before and after it, with the strobe there; none is over wake
 abbrev pub holds : Meaning → Meaning → Sent → ℕ → Bool
 holds m n f x = not (wakes f) && (strobe_at n x && (refreshed m x && refreshed n x))
 
--- the strobe comes with the frame, by the chip after it. A read needs it at its start, which is enough, as there is one
--- strobe for all addresses; a frame that reads nothing needs none
-abbrev pub comes : Meaning → Sent → Bool
-comes n (read b a c) = strobe_at n a
-comes n (write b a d k) = true
-comes n (register_read r) = register_strobe n
-comes n (register_write r v) = true
-comes n global_reset = true
+-- a frame that is taken is answered, by the chip after it; else it is 19. A read needs the strobe at the address that it
+-- starts from, which is enough, as one strobe serves all; a register read needs it too, and other frames do not
+abbrev pub answered : Meaning → Sent → Bool
+answered n (read b a c) = strobe_at n a
+answered n (write b a d m) = true
+answered n (register_read r) = register_strobe n
+answered n (register_write r v) = true
+answered n global_reset = true
 
--- what is answered: a register, where one is read
+-- the answer to a frame that is answered: a register, where one is read
 abbrev pub reply : Kind → State → Sent → Reply
 reply k s (read b a n) = Done
 reply k s (write b a d m) = Done
-reply k s (register_read n) = Register (register k s n)
-reply k s (register_write n v) = Done
+reply k s (register_read r) = Register (register k s r)
+reply k s (register_write r v) = Done
 reply k s global_reset = Done
 
--- the answer, by whether the strobe comes: 19 without it
+-- what comes back, by whether the frame is answered
 abbrev pub answer_by : Kind → State → Bool → Sent → Result Reply (Fault ℕ)
-answer_by k s there f = cond there (Ok (reply k s f)) (Err (fault_at (NoStrobe 0) (place f)))
+answer_by k s ok f = cond ok (Ok (reply k s f)) (Err (fault_at (NoStrobe 0) (place f)))
 
--- the buffer: a read with the strobe fills it with the bytes of its burst, as they are after the frame
+-- the buffer: a read that is answered fills it with the bytes of its burst, as they are after the frame
 abbrev pub Filled : Kind → State → Bool → Sent → (ℕ → ℕ) → List ℕ → List ℕ → Type 0
-Filled k s there (read b a n) byte old new = MatchBool there ((length new ≡ length old) × ((i : ℕ) → i < n → slice_index new i ≡ byte (address k s b a i))) (new ≡ old)
-Filled k s there (write b a d m) byte old new = new ≡ old
-Filled k s there (register_read n) byte old new = new ≡ old
-Filled k s there (register_write n v) byte old new = new ≡ old
-Filled k s there global_reset byte old new = new ≡ old
+Filled k s ok (read b a n) byte old new = MatchBool ok ((length new ≡ length old) × ((i : ℕ) → i < n → slice_index new i ≡ byte (address k s b a i))) (new ≡ old)
+Filled k s ok (write b a d m) byte old new = new ≡ old
+Filled k s ok (register_read r) byte old new = new ≡ old
+Filled k s ok (register_write r v) byte old new = new ≡ old
+Filled k s ok global_reset byte old new = new ≡ old
 
 -- what never changes
 pub record SamePart (m n : Meaning) : Type 0 where
   pub kind : n.kind ≡ m.kind
   pub refreshes : n.refreshes ≡ m.refreshes
 
--- a frame that is taken
-pub record Taken (m : Meaning) (f : Sent) (free : Free) (old : List ℕ) (r : Result Reply (Fault ℕ)) (n : Meaning) (new : List ℕ) : Type 0 where
+-- what a frame that is taken does
+pub record Taken (m : Meaning) (f : Sent) (free : FreeByFrame) (old : List ℕ) (r : Result Reply (Fault ℕ)) (n : Meaning) (new : List ℕ) : Type 0 where
   pub allowed : Allowed m.state free
   pub part : SamePart m n
   pub state : n.state ≡ after m.kind m.state f free
   pub bytes : (a : ℕ) → a < size m.kind → n.byte a ≡ cond (holds m n f a) (stored m.kind m.state f a (m.byte a)) (free.byte a)
-  pub answer : r ≡ answer_by m.kind m.state (comes n f) f
-  pub buffer : Filled m.kind m.state (comes n f) f n.byte old new
+  pub answer : r ≡ answer_by m.kind m.state (answered n f) f
+  pub buffer : Filled m.kind m.state (answered n f) f n.byte old new
 
 -- a frame sent after a gap: refused with nothing changed, or taken
 abbrev pub Judged : Option Refusal → Meaning → Sent → List ℕ → Result Reply (Fault ℕ) → Meaning → List ℕ → Type 0
 Judged (Some e) m f old r n new = (r ≡ Err (fault_at e (place f))) × (n ≡ m) × (new ≡ old)
-Judged None m f old r n new = (free : Free) × Taken m f free old r n new
+Judged None m f old r n new = (free : FreeByFrame) × Taken m f free old r n new
 
 pub record Sends (m : Meaning) (gap : ℕ) (f : Sent) (old : List ℕ) (r : Result Reply (Fault ℕ)) (n : Meaning) (new : List ℕ) : Type 0 where
   pub judged : Judged (refused m.kind m.state gap f) m f old r n new

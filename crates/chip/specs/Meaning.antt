@@ -47,7 +47,8 @@ abbrev pub register_strobe : Meaning → Bool
 register_strobe m = m.state.strobe
 
 -- true of every chip: it has a page at least and 16 MiB at most, the full coverage refreshes all of it, and
--- nothing refreshes what is not there. What is true of its clock numbers is in their type
+-- nothing refreshes what is not there. What is true of its clock numbers is in their type; that registers are bytes and
+-- the counts have 64 bits is in the type of the state that it answers
 pub record Lawful (m : Meaning) : Type 0 where
   pub some : 1 ≤ m.kind.pages
   pub most : size m.kind ≤ largest_size

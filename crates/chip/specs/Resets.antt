@@ -38,7 +38,7 @@ pub record FreeByReset : Type 0 where
   pub strobe : Bool
   pub byte : ℕ → ℕ
 
--- a reset that is taken
+-- what a reset that is taken does
 pub record Restarted (m : Meaning) (free : FreeByReset) (n : Meaning) : Type 0 where
   pub part : SamePart m n
   pub state : n.state ≡ after_pulse m.kind m.state free.strobe

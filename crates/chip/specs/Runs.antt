@@ -28,12 +28,12 @@ abbrev pub refusal : Meaning → Event → Option Refusal
 refusal m (sending gap f old r new) = refused m.kind m.state gap f
 refusal m (resetting pulse r) = reset_refused m.kind m.state pulse
 
--- a reset that is taken
+-- the event is a reset that is taken
 abbrev pub Restart : Meaning → Event → Type 0
 Restart m (sending gap f old r new) = ⊥
 Restart m (resetting pulse r) = refusal m (resetting pulse r) ≡ None
 
--- a global reset that is taken
+-- the event is a global reset that is taken
 abbrev pub Wake : Meaning → Event → Type 0
 Wake m (sending gap f old r new) = (refusal m (sending gap f old r new) ≡ None) × (wakes f ≡ true)
 Wake m (resetting pulse r) = ⊥
@@ -71,11 +71,11 @@ pub record Safe (m : Meaning) (a : ℕ) : Type 0 where
 abbrev pub Reaches : Meaning → Sent → ℕ → Type 0
 Reaches m (read b s n) a = ⊥
 Reaches m (write b s d k) a = (i : ℕ) × (i < length d) × (masked k i ≡ false) × (address m.kind m.state b s i ≡ a)
-Reaches m (register_read k) a = ⊥
-Reaches m (register_write k v) a = ⊥
+Reaches m (register_read r) a = ⊥
+Reaches m (register_write r v) a = ⊥
 Reaches m global_reset a = ⊥
 
--- a write of a that is taken
+-- the event is a write of a that is taken
 abbrev pub Writes : ℕ → Meaning → Event → Type 0
 Writes a m (sending gap f old r new) = (refusal m (sending gap f old r new) ≡ None) × Reaches m f a
 Writes a m (resetting pulse r) = ⊥

@@ -24,16 +24,16 @@ command_of_frame (read (Hybrid b) a n) = Read
 command_of_frame (write Linear a d m) = LinearWrite
 command_of_frame (write (Wrapped b) a d m) = Write
 command_of_frame (write (Hybrid b) a d m) = Write
-command_of_frame (register_read k) = RegisterRead
-command_of_frame (register_write k v) = RegisterWrite
+command_of_frame (register_read r) = RegisterRead
+command_of_frame (register_write r v) = RegisterWrite
 command_of_frame global_reset = GlobalReset
 
 -- what A3 to A0 carry: the start, the register's number, or nothing
 abbrev pub address_of_frame : Sent → ℕ
 address_of_frame (read b a n) = a
 address_of_frame (write b a d m) = a
-address_of_frame (register_read k) = k
-address_of_frame (register_write k v) = k
+address_of_frame (register_read r) = r
+address_of_frame (register_write r v) = r
 address_of_frame global_reset = 0
 
 -- the five opening bytes, where the address fits
@@ -49,8 +49,8 @@ pub record Follows : Type 0 where
 abbrev pub follows_in_frame : Sent → Follows
 follows_in_frame (read b a n) = record { count = n; bytes = []; mask = [] }
 follows_in_frame (write b a d m) = record { count = 0; bytes = d; mask = m }
-follows_in_frame (register_read k) = record { count = 1; bytes = []; mask = [] }
-follows_in_frame (register_write k v) = record { count = 0; bytes = v ∷ []; mask = [] }
+follows_in_frame (register_read r) = record { count = 1; bytes = []; mask = [] }
+follows_in_frame (register_write r v) = record { count = 0; bytes = v ∷ []; mask = [] }
 follows_in_frame global_reset = record { count = 0; bytes = []; mask = [] }
 
 -- opening bytes decode again to command and address; there are none only where the address does not fit

@@ -35,8 +35,8 @@ pub struct State {
     pub clocks: u64,
 }
 
-// One frame. A read has as many bytes as the buffer that it fills. A register goes by its number: the
-// wire carries any byte as one, and 18 refuses those that are none.
+// One frame. A read has as many bytes as the buffer that it fills. A register goes by its number: any
+// byte can be sent as one, and 18 refuses those that name no register.
 #[derive(Clone, Copy, Debug, PartialEq, Eq)]
 pub enum Frame<'a> {
     Read {
@@ -59,8 +59,8 @@ pub enum Frame<'a> {
     GlobalReset,
 }
 
-// What a frame that was taken answers. No `Option`: to answer nothing and to answer a register are
-// two kinds of frames, and nothing is ever missing.
+// What a frame that was taken answers. Not an `Option<u8>`: a frame that answers no register lacks
+// nothing.
 #[derive(Clone, Copy, Debug, PartialEq, Eq)]
 pub enum Reply {
     Done,

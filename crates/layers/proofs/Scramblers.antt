@@ -19,7 +19,7 @@ use Rattle.frame.specs.declared.burst.Burst.{Burst}
 use Rattle.frame.specs.declared.low.Transfer.TheVariants as transfer
 use Rattle.mask.specs.Masks.{masked, size}
 use Rattle.register.specs.Registers.{on_wire}
-use Rattle.chip.specs.Frames.{Sent, read, write, register_read, register_write, global_reset, sent, place, takes, least_gap, bad_start, first, refused, Free, after, counted, address, written, stored, holds, comes, answer_by, Filled, Taken, Judged, Sends}
+use Rattle.chip.specs.Frames.{Sent, read, write, register_read, register_write, global_reset, sent, place, takes, least_gap, bad_start, first, refused, FreeByFrame, after, counted, address, written, stored, holds, answered, answer_by, Filled, Taken, Judged, Sends}
 use Rattle.chip.specs.Meaning.{Meaning, write_latency}
 use Rattle.chip.specs.Resets.{reset_refused, ResetJudged, Resets}
 use Rattle.chip.specs.declared.parts.Frame.{Frame}
@@ -64,7 +64,7 @@ module _ (key : List ℕ) (p : ℕ → ℕ) (plain mixed mask : List ℕ) (is : 
 -- ---- a frame that is taken
 
 -- what is free above
-free_mixed : List ℕ → Free → Free
+free_mixed : List ℕ → FreeByFrame → FreeByFrame
 free_mixed key f = record { strobe = f.strobe; latency = f.latency; byte = λ a. bit_xor (f.byte a) (key_at key a) }
 
 byte_mixed : (h : Bool) (new stays goes other k : ℕ) → new ≡ cond h stays other → bit_xor stays k ≡ goes → bit_xor new k ≡ cond h goes (bit_xor other k)
@@ -74,14 +74,14 @@ byte_mixed h new stays goes other k e f =
 -- a frame g below for a frame f above: they store the same bytes, each in its own form, and agree in all else
 module _ (key : List ℕ) (m : Meaning) (g f : Sent) where
   record Stands : Type 0 where
-    pub leaves : (free : Free) → after m.kind m.state g free ≡ after m.kind m.state f free
+    pub leaves : (free : FreeByFrame) → after m.kind m.state g free ≡ after m.kind m.state f free
     pub stores : (a old : ℕ) → bit_xor (stored m.kind m.state g a old) (key_at key a) ≡ stored m.kind m.state f a (bit_xor old (key_at key a))
     pub keeps : (n : Meaning) (a : ℕ) → holds m n g a ≡ holds m n f a
-    pub answers : (n : Meaning) → answer_by m.kind m.state (comes n g) g ≡ answer_by m.kind m.state (comes n f) f
+    pub answers : (n : Meaning) → answer_by m.kind m.state (answered n g) g ≡ answer_by m.kind m.state (answered n f) f
     pub placed : place g ≡ place f
 
 module _ (key : List ℕ) (m n : Meaning) (g f : Sent) (stands : Stands key m g f) (old mid new : List ℕ) (r : Result Reply (Fault ℕ)) where
-  taken_above : (free : Free) → Filled m.kind m.state (comes n f) f (scrambler key n).byte old new → Taken m g free old r n mid → Taken (scrambler key m) f (free_mixed key free) old r (scrambler key n) new
+  taken_above : (free : FreeByFrame) → Filled m.kind m.state (answered n f) f (scrambler key n).byte old new → Taken m g free old r n mid → Taken (scrambler key m) f (free_mixed key free) old r (scrambler key n) new
   unfolding free_mixed
   taken_above free full t = record {
     allowed = record { strobe = t.allowed.strobe; latency = t.allowed.latency };
@@ -133,7 +133,7 @@ module _ (key : List ℕ) (m n : Meaning) (f : Sent) (is : Straight f) (old new 
   straight_judged None (free, t) = (
     free_mixed key free,
     taken_above key m n f f (stands_straight key m f is) old new new r free
-        (straight_filled m.kind m.state (comes n f) f n.byte (scrambler key n).byte old new is t.buffer)
+        (straight_filled m.kind m.state (answered n f) f n.byte (scrambler key n).byte old new is t.buffer)
         t,
   )
 
@@ -191,14 +191,14 @@ module _ (key : List ℕ) (m n : Meaning) (b : Burst) (a : ℕ) (old mid : List 
 
 -- the same of a frame that is known to be a read
 module _ (key : List ℕ) (m n : Meaning) (gap : ℕ) (f : Sent) (b : Burst) (a : ℕ) (old mid : List ℕ) (read_is : f ≡ read b a (length old)) where
-  pub answered : (new : List ℕ) (x : Reply) → Combined key (address n.kind n.state b a) mid new → Sends m gap f old (Ok x) n mid → Sends (scrambler key m) gap f old (Ok x) (scrambler key n) new
-  answered new x is sends =
+  pub sends_answered : (new : List ℕ) (x : Reply) → Combined key (address n.kind n.state b a) mid new → Sends m gap f old (Ok x) n mid → Sends (scrambler key m) gap f old (Ok x) (scrambler key n) new
+  sends_answered new x is sends =
       let at_read = subst (λ g. Sends m gap g old (Ok x) n mid) read_is sends in
       subst (λ g. Sends (scrambler key m) gap g old (Ok x) (scrambler key n) new) (sym read_is)
       record { judged = read_answered key m n b a old mid new (refused m.kind m.state gap (read b a (length old))) x is at_read.judged }
 
-  pub faulted : (r : Result Reply (Fault ℕ)) (d : Fault ℕ) → r ≡ Err d → Sends m gap f old (Err d) n mid → Sends (scrambler key m) gap f old r (scrambler key n) mid
-  faulted r d r_is sends =
+  pub sends_faulted : (r : Result Reply (Fault ℕ)) (d : Fault ℕ) → r ≡ Err d → Sends m gap f old (Err d) n mid → Sends (scrambler key m) gap f old r (scrambler key n) mid
+  sends_faulted r d r_is sends =
       let at_read = subst (λ g. Sends m gap g old (Err d) n mid) read_is sends in
       rw (r_is, read_is)
       record { judged = read_faulted key m n b a old mid (refused m.kind m.state gap (read b a (length old))) d at_read.judged }

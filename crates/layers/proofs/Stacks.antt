@@ -6,10 +6,12 @@ use Rattle.std.proofs.lemmas.Bool.Decides.{when_true}
 use Rattle.fault.specs.declared.Refusal.{Refusal}
 use Rattle.frame.specs.declared.burst.Burst.{Burst}
 use Rattle.mask.specs.Masks.{masked}
-use Rattle.chip.specs.Frames.{Sent, read, write, refused, Free, address, written, holds, Taken, Judged, Sends}
+use Rattle.chip.specs.Frames.{Sent, read, write, refused, FreeByFrame, address, written, holds, Taken, Judged, Sends}
 use Rattle.chip.specs.Meaning.{Meaning, size, coverage}
 use Rattle.chip.specs.declared.parts.Reply.{Reply}
 use Rattle.chip.specs.declared.parts.Reply.TheVariants.{Done}
+use Rattle.chip.proofs.Bytes.{changed_by_writes_only}
+use Rattle.chip.proofs.Steps.{part_never_changes}
 use Rattle.layers.specs.Scramblers.{key_at}
 use Rattle.layers.specs.Stacks.{stack, LastAt, WrittenComesBack}
 use Rattle.layers.specs.Windows.{shift}
@@ -34,7 +36,7 @@ written_last place d k i x old here plain (suc n) inside last =
     (cases_eq i n)
 
 -- a frame that is answered was taken
-taken : (m n : Meaning) (f : Sent) (old new : List ℕ) (x : Reply) (o : Option Refusal) → Judged o m f old (Ok x) n new → (free : Free) × Taken m f free old (Ok x) n new
+taken : (m n : Meaning) (f : Sent) (old new : List ℕ) (x : Reply) (o : Option Refusal) → Judged o m f old (Ok x) n new → (free : FreeByFrame) × Taken m f free old (Ok x) n new
 taken m n f old new x (Some e) (answer, _, _) = cc
 taken m n f old new x None judged = judged
 
@@ -66,7 +68,9 @@ written_comes_back hidden key m n gap b a i x d k old new law sends is here held
     record {
       above = lies;
       below = sym (twice (n.byte (x + shift hidden n.kind)) (key_at key x)) ∙ ap (λ y. bit_xor y (key_at key x)) lies;
-      back = λ p gap' c e l j old' new' sends' inside here' held'.
-          read_back (stack hidden key n) (stack hidden key p) gap' c e l j x old' new' sends' (subst (λ q. x < size q) (sym kind) in_it) inside here' held'
+      back = λ p q steps gap' c e l j old' new' run spared sends' inside here' held'.
+          let in_it' : x < size (stack hidden key n).kind = subst (λ k. x < size k) (sym kind) in_it in
+          read_back p q gap' c e l j x old' new' sends' (subst (λ k. x < size k) (sym (part_never_changes (stack hidden key n) p steps run).kind) in_it') inside here' held'
+          ∙ changed_by_writes_only (stack hidden key n) p steps x run in_it' spared
           ∙ lies;
     }

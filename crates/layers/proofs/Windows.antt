@@ -16,7 +16,7 @@ use Rattle.fault.specs.declared.Fault.{Fault}
 use Rattle.fault.specs.declared.Refusal.{Refusal}
 use Rattle.fault.specs.declared.Refusal.TheVariants.{WrongPhase, TooSoon, BadStart, BadCount, TooLong, BadRegister}
 use Rattle.register.specs.declared.fields.Coverage.{Coverage}
-use Rattle.chip.specs.Frames.{Sent, read, write, register_read, register_write, global_reset, sent, place, wakes, takes, least_gap, bad_start, bad_count, too_long, first, refused, Free, after, address, written, stored, holds, comes, reply, answer_by, Filled, SamePart, Taken, Judged, Sends}
+use Rattle.chip.specs.Frames.{Sent, read, write, register_read, register_write, global_reset, sent, place, wakes, takes, least_gap, bad_start, bad_count, too_long, first, refused, FreeByFrame, after, address, written, stored, holds, answered, reply, answer_by, Filled, SamePart, Taken, Judged, Sends}
 use Rattle.mask.specs.Masks.{masked}
 use Rattle.register.specs.Registers.{on_wire}
 use Rattle.chip.specs.Meaning.{Meaning, Lawful, size, largest_size, refreshed, strobe_at}
@@ -103,7 +103,7 @@ refreshed_moved h m c from count low r law is told =
 -- ---- one frame
 
 -- what is free in the window
-free_above : ℕ → Free → Free
+free_above : ℕ → FreeByFrame → FreeByFrame
 free_above by f = record { strobe = f.strobe; latency = f.latency; byte = λ a. f.byte (a + by) }
 
 same_test : (a b by : ℕ) → (a + by == b + by) ≡ (a == b)
@@ -169,7 +169,7 @@ module _ (h : ℕ) (k : Kind) (s : State) (most : size k ≤ largest_size) where
   answer_below true f = ap (λ x. Ok x) (reply_below f)
   answer_below false f = refl
 
-after_below : (h : ℕ) (k : Kind) (s : State) (f : Sent) (free : Free) → after k s (lowered (shift h k) f) free ≡ after (window_kind h k) s f (free_above (shift h k) free)
+after_below : (h : ℕ) (k : Kind) (s : State) (f : Sent) (free : FreeByFrame) → after k s (lowered (shift h k) f) free ≡ after (window_kind h k) s f (free_above (shift h k) free)
 unfolding free_above
 after_below h k s (read b a n) free = refl
 after_below h k s (write b a d m) free = refl
@@ -184,12 +184,12 @@ wakes_below by (register_read n) = refl
 wakes_below by (register_write n v) = refl
 wakes_below by global_reset = refl
 
-comes_below : (h by : ℕ) (n : Meaning) (f : Sent) → comes n (lowered by f) ≡ comes (window h n) f
-comes_below h by n (read b a c) = refl
-comes_below h by n (write b a d m) = refl
-comes_below h by n (register_read r) = refl
-comes_below h by n (register_write r v) = refl
-comes_below h by n global_reset = refl
+answered_below : (h by : ℕ) (n : Meaning) (f : Sent) → answered n (lowered by f) ≡ answered (window h n) f
+answered_below h by n (read b a c) = refl
+answered_below h by n (write b a d m) = refl
+answered_below h by n (register_read r) = refl
+answered_below h by n (register_write r v) = refl
+answered_below h by n global_reset = refl
 
 holds_below : (h : ℕ) (m n : Meaning) (f : Sent) (x : ℕ) → n.kind ≡ m.kind → holds m n (lowered (shift h m.kind) f) (x + shift h m.kind) ≡ holds (window h m) (window h n) f x
 holds_below h m n f x same =
@@ -204,7 +204,7 @@ part_above h m n part = record {
 }
 
 -- a frame that is taken below is taken by the window
-taken_above : (h : ℕ) (m n : Meaning) (f : Sent) (free : Free) (old new : List ℕ) (r : Result Reply (Fault ℕ)) → Lawful m → bad_start (window_kind h m.kind) f ≡ false → Taken m (lowered (shift h m.kind) f) free old r n new → Taken (window h m) f (free_above (shift h m.kind) free) old (placed (place f) r) (window h n) new
+taken_above : (h : ℕ) (m n : Meaning) (f : Sent) (free : FreeByFrame) (old new : List ℕ) (r : Result Reply (Fault ℕ)) → Lawful m → bad_start (window_kind h m.kind) f ≡ false → Taken m (lowered (shift h m.kind) f) free old r n new → Taken (window h m) f (free_above (shift h m.kind) free) old (placed (place f) r) (window h n) new
 unfolding free_above
 taken_above h m n f free old new r law good t =
     let by = shift h m.kind in
@@ -219,12 +219,12 @@ taken_above h m n f free old new r law good t =
           ∙ (λ i. cond (holds_below h m n f a same i) (stored_below h m.kind m.state law.most f a (m.byte (a + by)) good i) (free.byte (a + by)));
       answer =
           ap (placed (place f)) t.answer
-          ∙ answer_below h m.kind m.state law.most (comes n (lowered by f)) f
-          ∙ ap (λ there. answer_by (window_kind h m.kind) m.state there f) (comes_below h by n f);
+          ∙ answer_below h m.kind m.state law.most (answered n (lowered by f)) f
+          ∙ ap (λ there. answer_by (window_kind h m.kind) m.state there f) (answered_below h by n f);
       buffer =
-          subst (λ k. Filled (window_kind h m.kind) m.state (comes (window h n) f) f (λ a. n.byte (a + shift h k)) old new) (sym same)
-          (subst (λ there. Filled (window_kind h m.kind) m.state there f (λ a. n.byte (a + by)) old new) (comes_below h by n f)
-          (filled_below h m.kind m.state law.most (comes n (lowered by f)) f n.byte old new good t.buffer));
+          subst (λ k. Filled (window_kind h m.kind) m.state (answered (window h n) f) f (λ a. n.byte (a + shift h k)) old new) (sym same)
+          (subst (λ there. Filled (window_kind h m.kind) m.state there f (λ a. n.byte (a + by)) old new) (answered_below h by n f)
+          (filled_below h m.kind m.state law.most (answered n (lowered by f)) f n.byte old new good t.buffer));
     }
 
 -- a frame that is judged below is judged so by the window

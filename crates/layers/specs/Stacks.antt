@@ -4,6 +4,7 @@ use Rattle.frame.specs.declared.burst.Burst.{Burst}
 use Rattle.mask.specs.Masks.{masked}
 use Rattle.chip.specs.Frames.{read, write, address, holds, Sends}
 use Rattle.chip.specs.Meaning.{Meaning, Lawful}
+use Rattle.chip.specs.Runs.{Each, Runs, Spares, Step}
 use Rattle.chip.specs.declared.parts.Reply.TheVariants.{Done}
 use Rattle.layers.specs.Scramblers.{scrambler, key_at}
 use Rattle.layers.specs.Windows.{window, shift}
@@ -17,12 +18,12 @@ pub record LastAt (place : ℕ → ℕ) (d k : List ℕ) (i : ℕ) : Type 0 wher
   pub unmasked : masked k i ≡ false
   pub last : (j : ℕ) → i < j → j < length d → masked k j ≡ false → place j ≢ place i
 
--- the stack over n holds v at x: the chip below has it at the shifted address under the key, and a read that is
--- answered, over which x is held, gives it back at each place of its burst that comes to x
+-- the stack over n holds v at x: the chip below has it at the shifted address under the key, and after any run that
+-- spares x, a read that is answered, over which x is held, gives it back at each place of its burst that comes to x
 pub record ComesBack (hidden : ℕ) (key : List ℕ) (n : Meaning) (x v : ℕ) : Type 0 where
   pub above : (stack hidden key n).byte x ≡ v
   pub below : n.byte (x + shift hidden n.kind) ≡ bit_xor v (key_at key x)
-  pub back : (p : Meaning) (gap : ℕ) (c : Burst) (e l j : ℕ) (old new : List ℕ) → Sends (stack hidden key n) gap (read c e l) old (Ok Done) (stack hidden key p) new → j < l → address (stack hidden key n).kind n.state c e j ≡ x → holds (stack hidden key n) (stack hidden key p) (read c e l) x ≡ true → slice_index new j ≡ v
+  pub back : (p q : Meaning) (steps : List Step) (gap : ℕ) (c : Burst) (e l j : ℕ) (old new : List ℕ) → Runs (stack hidden key n) steps p → Each (Spares x) (stack hidden key n) steps → Sends p gap (read c e l) old (Ok Done) q new → j < l → address p.kind p.state c e j ≡ x → holds p q (read c e l) x ≡ true → slice_index new j ≡ v
 
 -- of a write that is answered, the last unmasked byte to an address that is held over the write
 abbrev pub WrittenComesBack : Type 0

@@ -38,7 +38,7 @@ moved by a = min (a + by) (2 ^ 32 - 1)
 
 abbrev pub lowered : ℕ → Sent → Sent
 lowered by (read b a n) = read b (moved by a) n
-lowered by (write b a d k) = write b (moved by a) d k
-lowered by (register_read k) = register_read k
-lowered by (register_write k v) = register_write k v
+lowered by (write b a d m) = write b (moved by a) d m
+lowered by (register_read r) = register_read r
+lowered by (register_write r v) = register_write r v
 lowered by global_reset = global_reset

@@ -25,7 +25,8 @@ impl<C: Chip> Scrambler<Window<C>> {
     }
 
     // Where the byte at an address lies in the chip below the window, held at 2^32 - 1, and the key
-    // byte that it is combined with there. What is written through the stack comes back through it.
+    // byte of the address, with which it is combined. What is written through the stack comes back
+    // through it.
     pub fn lies_at(&self, address: u32) -> (u32, u8)
         ensures value { result ≡ (moved (shift self.now.chip.hidden (C.Chip.meaning self.now.chip.chip).kind) address, key_at self.now.key address) }
         ensures comes_back { WrittenComesBack }

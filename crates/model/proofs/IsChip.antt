@@ -7,7 +7,7 @@ use Rattle.std.specs.List.{range_with_len}
 use Rattle.fault.specs.declared.Fault.{Fault}
 use Rattle.fault.specs.declared.Refusal.{Refusal}
 use Rattle.mask.specs.Masks.{masked}
-use Rattle.chip.specs.Frames.{Sent, sent, read, write, register_read, register_write, global_reset, refused, Free, Allowed, address, written, stored, comes, answer_by, Filled, Taken, Judged, Sends}
+use Rattle.chip.specs.Frames.{Sent, sent, read, write, register_read, register_write, global_reset, refused, FreeByFrame, Allowed, address, written, stored, answered, answer_by, Filled, Taken, Judged, Sends}
 use Rattle.chip.specs.Meaning.{size}
 use Rattle.chip.specs.Resets.{reset_refused, ResetJudged, Resets}
 use Rattle.chip.specs.declared.parts.Frame.{Frame}
@@ -51,7 +51,7 @@ module _ (place : ℕ → ℕ) (d k store : List ℕ) where
 -- ---- a frame that is taken
 
 -- what a model leaves free comes to be what it does
-abbrev does : Model → Sent → Free
+abbrev does : Model → Sent → FreeByFrame
 does m f = record { strobe = strobe_stays m; latency = latency m; byte = λ a. get_or (store_after m f) a 0 }
 
 allowed : (m : Model) (f : Sent) → Allowed m.state (does m f)
@@ -71,7 +71,7 @@ filled_read : (stays : Bool) (byte : ℕ → ℕ) (old : List ℕ) → MatchBool
 filled_read true byte old = (length-map-range_with_len byte 0 (length old), λ i h. get_or-map-range_with_len byte 0 (length old) i i 0 h (omega arith))
 filled_read false byte old = refl
 
-filled : (m : Model) (f : Frame) (old : List ℕ) → let s = sent f (length old) in Filled m.kind m.state (comes (meaning (taken m s)) s) s (meaning (taken m s)).byte old (buffer_after m s old)
+filled : (m : Model) (f : Frame) (old : List ℕ) → let s = sent f (length old) in Filled m.kind m.state (answered (meaning (taken m s)) s) s (meaning (taken m s)).byte old (buffer_after m s old)
 filled m (frame.Read b a) old = filled_read (strobe_stays m) (λ i. get_or m.store (address m.kind m.state b a i) 0) old
 filled m (frame.Write b a d k) old = refl
 filled m (frame.RegisterRead n) old = refl
@@ -82,7 +82,7 @@ module _ (m : Model) (fr : Frame) (old : List ℕ) (whole : length m.store ≡ s
   abbrev f : Sent
   f = sent fr (length old)
 
-  takes : Taken (meaning m) f (does m f) old (answer_by m.kind m.state (comes (meaning (taken m f)) f) f) (meaning (taken m f)) (buffer_after m f old)
+  takes : Taken (meaning m) f (does m f) old (answer_by m.kind m.state (answered (meaning (taken m f)) f) f) (meaning (taken m f)) (buffer_after m f old)
   takes = record {
     allowed = allowed m f;
     part = record { kind = refl; refreshes = refl };

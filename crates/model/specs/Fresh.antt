@@ -21,8 +21,8 @@ abbrev pub unmade : Make → ℕ → ℕ → Range → Option Refusal
 unmade m n khz range = cond (bad_store m n) (Some BadSetup) (clock.refused khz range)
 
 -- unwoken, with the strobe there and nothing counted
-abbrev pub asleep : Make → State
-asleep m = record {
+abbrev pub before_wake : Make → State
+before_wake m = record {
   mr0 = reset_value m 0;
   mr4 = reset_value m 4;
   mr8 = reset_value m 8;
@@ -38,7 +38,7 @@ pub record Fresh (m : Make) (store : List ℕ) (khz : ℕ) (range : Range) (word
   pub make : d.kind.make ≡ m
   pub pages : d.kind.pages ≡ length store / page m
   pub clock : clock.For khz range d.kind.clock
-  pub state : d.state ≡ asleep m
+  pub state : d.state ≡ before_wake m
   pub store_is : vec_items d.store ≡ store
   pub word_is : d.word ≡ word
   pub strobes_is : d.strobes ≡ strobes

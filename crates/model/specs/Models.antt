@@ -7,7 +7,7 @@ use Rattle.fault.specs.declared.Fault.{Fault}
 use Rattle.fault.specs.declared.Refusal.{Refusal}
 use Rattle.mask.specs.Masks.{masked}
 use Rattle.register.specs.Registers.{mr0, kept}
-use Rattle.chip.specs.Frames.{Sent, read, write, register_read, register_write, global_reset, place, refused, fixed, Free, after, address, comes, answer_by}
+use Rattle.chip.specs.Frames.{Sent, read, write, register_read, register_write, global_reset, place, refused, fixed, FreeByFrame, after, address, answered, answer_by}
 use Rattle.chip.specs.Meaning.{Meaning, size, read_latency}
 use Rattle.chip.specs.Resets.{reset_refused, after_pulse}
 use Rattle.chip.specs.declared.parts.Kind.{Kind}
@@ -47,16 +47,13 @@ abbrev pub with_counts : Model → ℕ → ℕ → Model
 with_counts m turn answered = record { kind = m.kind; state = m.state; store = m.store; word = m.word; strobes = m.strobes; turn = turn; answered = answered }
 
 -- what a model means as a chip: a coverage refreshes its part of the size, and the bytes are those of the store
-abbrev pub meaning_of : Kind → State → List ℕ → Meaning
-meaning_of k s store = record {
-  kind = k;
-  refreshes = λ c a. nat_le (kept c (size k)).from a && nat_lt a (kept c (size k)).to;
-  state = s;
-  byte = λ a. slice_index store a;
-}
-
 abbrev pub meaning : Model → Meaning
-meaning m = meaning_of m.kind m.state m.store
+meaning m = record {
+  kind = m.kind;
+  refreshes = λ c a. nat_le (kept c (size m.kind)).from a && nat_lt a (kept c (size m.kind)).to;
+  state = m.state;
+  byte = λ a. slice_index m.store a;
+}
 
 -- ---- the strobe and the latency
 
@@ -72,7 +69,7 @@ variable m = strobe_stays m && not (fixed (mr0 m.state.mr0).kind)
 abbrev pub latency : Model → ℕ
 latency m = cond (variable m && m.word / 2 ^ m.turn % 2 == 0) (clocks (read_latency m.state)) (2 * clocks (read_latency m.state))
 
-abbrev pub choice : Model → Free
+abbrev pub choice : Model → FreeByFrame
 choice m = record { strobe = strobe_stays m; latency = latency m; byte = λ a. slice_index m.store a }
 
 -- ---- the store
@@ -85,8 +82,8 @@ put at d k (suc i) store = cond (masked k i) (put at d k i store) (slice_set (pu
 abbrev pub store_after : Model → Sent → List ℕ
 store_after m (read b a n) = m.store
 store_after m (write b a d k) = put (address m.kind m.state b a) d k (length d) m.store
-store_after m (register_read n) = m.store
-store_after m (register_write n v) = m.store
+store_after m (register_read r) = m.store
+store_after m (register_write r v) = m.store
 store_after m global_reset = m.store
 
 -- ---- the counts
@@ -94,8 +91,8 @@ store_after m global_reset = m.store
 abbrev pub turn_after : Model → Sent → ℕ
 turn_after m (read b a n) = cond (variable m) ((m.turn + 1) % 32) m.turn
 turn_after m (write b a d k) = m.turn
-turn_after m (register_read n) = m.turn
-turn_after m (register_write n v) = m.turn
+turn_after m (register_read r) = m.turn
+turn_after m (register_write r v) = m.turn
 turn_after m global_reset = 0
 
 abbrev pub one_more : Model → ℕ
@@ -104,8 +101,8 @@ one_more m = cond (strobe_stays m) (min (m.answered + 1) (2 ^ 32 - 1)) m.answere
 abbrev pub answered_after : Model → Sent → ℕ
 answered_after m (read b a n) = one_more m
 answered_after m (write b a d k) = m.answered
-answered_after m (register_read n) = one_more m
-answered_after m (register_write n v) = m.answered
+answered_after m (register_read r) = one_more m
+answered_after m (register_write r v) = m.answered
 answered_after m global_reset = 0
 
 -- ---- one frame
@@ -125,8 +122,8 @@ taken m f = record {
 abbrev pub buffer_after : Model → Sent → List ℕ → List ℕ
 buffer_after m (read b a n) old = cond (strobe_stays m) (map (λ i. slice_index m.store (address m.kind m.state b a i)) (range_with_len 0 n)) old
 buffer_after m (write b a d k) old = old
-buffer_after m (register_read n) old = old
-buffer_after m (register_write n v) old = old
+buffer_after m (register_read r) old = old
+buffer_after m (register_write r v) old = old
 buffer_after m global_reset old = old
 
 -- what comes of a frame: the model, the answer and the buffer
@@ -139,7 +136,7 @@ abbrev pub judged : Option Refusal → Model → Sent → List ℕ → Outcome
 judged (Some e) m f old = record { model = m; answer = Err (fault_at e (place f)); buffer = old }
 judged None m f old = record {
   model = taken m f;
-  answer = answer_by m.kind m.state (comes (meaning (taken m f)) f) f;
+  answer = answer_by m.kind m.state (answered (meaning (taken m f)) f) f;
   buffer = buffer_after m f old;
 }
 

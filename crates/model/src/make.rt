@@ -3,7 +3,7 @@ ghost use Rattle.std.specs.Prelude.{◌≡◌, ◌/◌, length, Some, None, Matc
 ghost use Rattle.clock.specs.Made.{For};
 ghost use Rattle.frame.specs.Pages.{page};
 ghost use Rattle.chip.specs.Frames.{reset_value};
-ghost use Rattle.model.specs.Fresh.{bad_store, unmade, asleep};
+ghost use Rattle.model.specs.Fresh.{bad_store, unmade, before_wake};
 
 use chip::{Kind, Phase, State};
 use clock::{Clock, Range};
@@ -41,8 +41,8 @@ pub(crate) fn reset_value(make: Make, number: u8) -> u8
 }
 
 // The state of a chip that is not woken yet.
-pub(crate) fn asleep(make: Make) -> State
-    ensures { result ≡ asleep make }
+pub(crate) fn before_wake(make: Make) -> State
+    ensures { result ≡ before_wake make }
 {
     State {
         mr0: reset_value(make, 0),

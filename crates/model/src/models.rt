@@ -10,7 +10,7 @@ ghost use Rattle.model.specs.Wins.{WritesWin};
 ghost use Rattle.std.proofs.Common.{rules};
 
 use crate::device::Device;
-use crate::make::{asleep, kind};
+use crate::make::{before_wake, kind};
 use chip::{Chip, Frame, Kind, Reply, State};
 use clock::Range;
 use fault::{Fault, Returned};
@@ -71,7 +71,7 @@ impl<P: Part> Model<P> {
             Ok(kind) => Ok(Model {
                 device: Device {
                     kind,
-                    state: asleep(P::MAKE),
+                    state: before_wake(P::MAKE),
                     store,
                     word,
                     strobes,

@@ -4,7 +4,7 @@ ghost use Rattle.chip.specs.Frames.{sent};
 ghost use Rattle.model.specs.Models.{inside, Steps, Restarts};
 
 use crate::device::Device;
-use crate::make::asleep;
+use crate::make::before_wake;
 use chip::{Frame, Phase, Reply, State};
 use fault::{Fault, Refusal};
 
@@ -27,7 +27,7 @@ impl Device {
                     strobe: choice.strobe,
                     settling: true,
                     low,
-                    ..asleep(self.kind.make)
+                    ..before_wake(self.kind.make)
                 };
                 self.turn = 0;
                 self.answered = 0;
@@ -87,7 +87,7 @@ impl Device {
             Phase::Unwoken => Err(Refusal::WrongPhase.at(0)),
             Phase::Awake if pulse < self.kind.clock.trp => Err(Refusal::TooSoon.at(0)),
             Phase::Awake => {
-                let State { mr0, mr4, mr8, .. } = asleep(self.kind.make);
+                let State { mr0, mr4, mr8, .. } = before_wake(self.kind.make);
                 self.state = State {
                     mr0,
                     mr4,

@@ -1,7 +1,7 @@
 use Rattle.std.proofs.Common.{◌≡◌, length, Err, ap, ◌∙◌}
 use Rattle.std.proofs.lemmas.Result.{err_from_is_err_and}
 use Rattle.chip.specs.Frames.{sent}
-use Rattle.layers.proofs.Scramblers.{answered, faulted, sends_long, sends_straight, sends_write, straight_frame}
+use Rattle.layers.proofs.Scramblers.{sends_answered, sends_faulted, sends_long, sends_straight, sends_write, straight_frame}
 use Rattle.layers.proofs.scrambler.ScramblerChip.send.Goals as goal
 use Rattle.layers.proofs.scrambler.ScramblerChip.send.Goals.{in_default-via-in-Write+else-data-le-LONGEST, in_default-via-in_default}
 
@@ -9,11 +9,11 @@ pub returns-in_err-reply-in-Read : goal.returns-in_err-reply-in-Read
 returns-in_err-reply-in-Read g c =
     let d = c.in_err-reply-in-Read.field-0.0 in
     let (e, back, same) = err_from_is_err_and {Q = λ x. x ≡ d} c.from_residual.result c.from_residual.ensures.1 in
-    faulted _ _ _ c.args.gap _ c.in-Read.burst c.in-Read.start _ _ (ap (λ x. sent x (length c.args.buffer.now)) c.in-Read.is) _ d (back ∙ ap (λ x. Err x) same) c.in_err-reply-in-Read.ensures
+    sends_faulted _ _ _ c.args.gap _ c.in-Read.burst c.in-Read.start _ _ (ap (λ x. sent x (length c.args.buffer.now)) c.in-Read.is) _ d (back ∙ ap (λ x. Err x) same) c.in_err-reply-in-Read.ensures
 
 pub returns-in_ok-reply-in-Read : goal.returns-in_ok-reply-in-Read
 returns-in_ok-reply-in-Read g c =
-    answered _ _ _ c.args.gap _ c.in-Read.burst c.in-Read.start _ _ (ap (λ x. sent x (length c.args.buffer.now)) c.in-Read.is) _ _ c.combine.ensures c.in_ok-reply-in-Read.ensures
+    sends_answered _ _ _ c.args.gap _ c.in-Read.burst c.in-Read.start _ _ (ap (λ x. sent x (length c.args.buffer.now)) c.in-Read.is) _ _ c.combine.ensures c.in_ok-reply-in-Read.ensures
 
 pub returns-in-Write : goal.returns-in-Write
 returns-in-Write g c =
