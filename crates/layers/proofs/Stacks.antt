@@ -16,7 +16,7 @@ use Rattle.layers.specs.Scramblers.{key_at}
 use Rattle.layers.specs.Stacks.{stack, LastAt, WrittenComesBack}
 use Rattle.layers.specs.Windows.{shift}
 use Rattle.layers.proofs.Scramblers.{twice, strobe_there}
-use Rattle.layers.specs.LawfulWindows.{lawful_window}
+use Rattle.layers.specs.LawfulWindows.{inside_window}
 
 -- of the bytes that go to an address, the last unmasked one stays
 written_last : (place : ℕ → ℕ) (d k : List ℕ) (i x old : ℕ) → place i ≡ x → masked k i ≡ false → (n : ℕ) → i < n → ((j : ℕ) → i < j → j < n → masked k j ≡ false → place j ≡ x → ⊥) → written place d k n x old ≡ get_or d i 0
@@ -63,7 +63,7 @@ write_lies m n gap b a i x d k old new sends in_it is here held =
 pub written_comes_back : WrittenComesBack
 written_comes_back hidden key m n gap b a i x d k old new law sends is here held =
     let covered = (and_parts _ _ (and_parts _ _ held).1).0 in
-    let in_it : x < size (stack hidden key m).kind = (lawful_window hidden m law).inside (coverage m.state) x covered in
+    let in_it : x < size (stack hidden key m).kind = inside_window hidden m law (coverage m.state) x covered in
     let (lies, kind) = write_lies (stack hidden key m) (stack hidden key n) gap b a i x d k old new sends in_it is here held in
     record {
       above = lies;

@@ -28,7 +28,7 @@ use Rattle.chip.specs.declared.parts.Reply.{Reply}
 use Rattle.chip.specs.declared.parts.State.{State}
 use Rattle.chip.proofs.Tests.{good_start}
 use Rattle.layers.specs.LawfulWindows.{parts}
-use Rattle.layers.specs.Windows.{hides, shift, window_kind, window, placed, moved, lowered}
+use Rattle.layers.specs.Windows.{shift, window_kind, window, placed, moved, lowered}
 
 -- ---- numbers
 
@@ -120,9 +120,9 @@ when_both : {P Q P' Q' : Type 0} (b : Bool) → MatchBool b P Q → (P → P') �
 when_both true w f g = f w
 when_both false w f g = g w
 
-module _ (h : ℕ) (k : Kind) (s : State) (most : size k ≤ largest_size) where
+module _ (h : ℕ) (k : Kind) (s : State) (some : h < k.pages) (most : size k ≤ largest_size) where
   start_below : (a : ℕ) → (a % 2 == 1 || nat_le (size (window_kind h k)) a) ≡ (moved (shift h k) a % 2 == 1 || nat_le (size k) (moved (shift h k) a))
-  start_below a = start_same (shift h k) (size k) (size (window_kind h k)) a (even_pages k.make (hides h k)) (parts h k) most
+  start_below a = start_same (shift h k) (size k) (size (window_kind h k)) a (even_pages k.make h) (parts h k some) most
 
   -- a frame is refused as the frame below is
   pub refused_below : (gap : ℕ) (f : Sent) → refused (window_kind h k) s gap f ≡ refused k s gap (lowered (shift h k) f)
@@ -136,11 +136,11 @@ module _ (h : ℕ) (k : Kind) (s : State) (most : size k ≤ largest_size) where
 
   -- a start that is taken lies in the window, and goes down unheld
   in_window : (a : ℕ) → (a % 2 == 1 || nat_le (size (window_kind h k)) a) ≡ false → moved (shift h k) a ≡ a + shift h k
-  in_window a e = let low = leb-false _ _ (or_parts (a % 2 == 1) _ e).1 in omega (arith, parts h k)
+  in_window a e = let low = leb-false _ _ (or_parts (a % 2 == 1) _ e).1 in omega (arith, parts h k some)
 
   address_below : (b : Burst) (a i : ℕ) → (a % 2 == 1 || nat_le (size (window_kind h k)) a) ≡ false → address k s b (moved (shift h k) a) i ≡ address (window_kind h k) s b a i + shift h k
   address_below b a i e =
-      ap (λ x. at k.make (on_wire b s.mr8) x i) (in_window a e) ∙ address_moved k.make (on_wire b s.mr8) a (hides h k) i
+      ap (λ x. at k.make (on_wire b s.mr8) x i) (in_window a e) ∙ address_moved k.make (on_wire b s.mr8) a h i
 
   -- a write goes through the moved addresses as through the addresses
   stored_below : (f : Sent) (x old : ℕ) → bad_start (window_kind h k) f ≡ false → stored k s (lowered (shift h k) f) (x + shift h k) old ≡ stored (window_kind h k) s f x old
@@ -204,9 +204,9 @@ part_above h m n part = record {
 }
 
 -- a frame that is taken below is taken by the window
-taken_above : (h : ℕ) (m n : Meaning) (f : Sent) (free : FreeByFrame) (old new : List ℕ) (r : Result Reply (Fault ℕ)) → Lawful m → bad_start (window_kind h m.kind) f ≡ false → Taken m (lowered (shift h m.kind) f) free old r n new → Taken (window h m) f (free_above (shift h m.kind) free) old (placed (place f) r) (window h n) new
+taken_above : (h : ℕ) (m n : Meaning) (f : Sent) (free : FreeByFrame) (old new : List ℕ) (r : Result Reply (Fault ℕ)) → h < m.kind.pages → Lawful m → bad_start (window_kind h m.kind) f ≡ false → Taken m (lowered (shift h m.kind) f) free old r n new → Taken (window h m) f (free_above (shift h m.kind) free) old (placed (place f) r) (window h n) new
 unfolding free_above
-taken_above h m n f free old new r law good t =
+taken_above h m n f free old new r some law good t =
     let by = shift h m.kind in
     let same = t.part.kind in
     record {
@@ -215,28 +215,28 @@ taken_above h m n f free old new r law good t =
       state = t.state ∙ after_below h m.kind m.state f free;
       bytes = λ a in_it.
           ap (λ k. n.byte (a + shift h k)) same
-          ∙ t.bytes (a + by) (omega (arith, parts h m.kind))
-          ∙ (λ i. cond (holds_below h m n f a same i) (stored_below h m.kind m.state law.most f a (m.byte (a + by)) good i) (free.byte (a + by)));
+          ∙ t.bytes (a + by) (omega (arith, parts h m.kind some))
+          ∙ (λ i. cond (holds_below h m n f a same i) (stored_below h m.kind m.state some law.most f a (m.byte (a + by)) good i) (free.byte (a + by)));
       answer =
           ap (placed (place f)) t.answer
-          ∙ answer_below h m.kind m.state law.most (answered n (lowered by f)) f
+          ∙ answer_below h m.kind m.state some law.most (answered n (lowered by f)) f
           ∙ ap (λ there. answer_by (window_kind h m.kind) m.state there f) (answered_below h by n f);
       buffer =
           subst (λ k. Filled (window_kind h m.kind) m.state (answered (window h n) f) f (λ a. n.byte (a + shift h k)) old new) (sym same)
           (subst (λ there. Filled (window_kind h m.kind) m.state there f (λ a. n.byte (a + by)) old new) (answered_below h by n f)
-          (filled_below h m.kind m.state law.most (answered n (lowered by f)) f n.byte old new good t.buffer));
+          (filled_below h m.kind m.state some law.most (answered n (lowered by f)) f n.byte old new good t.buffer));
     }
 
 -- a frame that is judged below is judged so by the window
-judged_above : (h : ℕ) (m n : Meaning) (f : Sent) (old new : List ℕ) (r : Result Reply (Fault ℕ)) (o : Option Refusal) → Lawful m → (o ≡ None → bad_start (window_kind h m.kind) f ≡ false) → Judged o m (lowered (shift h m.kind) f) old r n new → Judged o (window h m) f old (placed (place f) r) (window h n) new
-judged_above h m n f old new r (Some e) law good (a, b, c) = (ap (placed (place f)) a, ap (window h) b, c)
-judged_above h m n f old new r None law good (free, t) = (free_above (shift h m.kind) free, taken_above h m n f free old new r law (good refl) t)
+judged_above : (h : ℕ) (m n : Meaning) (f : Sent) (old new : List ℕ) (r : Result Reply (Fault ℕ)) (o : Option Refusal) → h < m.kind.pages → Lawful m → (o ≡ None → bad_start (window_kind h m.kind) f ≡ false) → Judged o m (lowered (shift h m.kind) f) old r n new → Judged o (window h m) f old (placed (place f) r) (window h n) new
+judged_above h m n f old new r (Some e) some law good (a, b, c) = (ap (placed (place f)) a, ap (window h) b, c)
+judged_above h m n f old new r None some law good (free, t) = (free_above (shift h m.kind) free, taken_above h m n f free old new r some law (good refl) t)
 
-sends_above : (h gap : ℕ) (m n : Meaning) (f : Sent) (old new : List ℕ) (r : Result Reply (Fault ℕ)) → Lawful m → Sends m gap (lowered (shift h m.kind) f) old r n new → Sends (window h m) gap f old (placed (place f) r) (window h n) new
-sends_above h gap m n f old new r law below = record {
+sends_above : (h gap : ℕ) (m n : Meaning) (f : Sent) (old new : List ℕ) (r : Result Reply (Fault ℕ)) → h < m.kind.pages → Lawful m → Sends m gap (lowered (shift h m.kind) f) old r n new → Sends (window h m) gap f old (placed (place f) r) (window h n) new
+sends_above h gap m n f old new r some law below = record {
   judged =
-      judged_above h m n f old new r (refused (window_kind h m.kind) m.state gap f) law (good_start (window_kind h m.kind) m.state gap f)
-      (subst (λ o. Judged o m (lowered (shift h m.kind) f) old r n new) (sym (refused_below h m.kind m.state law.most gap f)) below.judged);
+      judged_above h m n f old new r (refused (window_kind h m.kind) m.state gap f) some law (good_start (window_kind h m.kind) m.state gap f)
+      (subst (λ o. Judged o m (lowered (shift h m.kind) f) old r n new) (sym (refused_below h m.kind m.state some law.most gap f)) below.judged);
 }
 
 -- ---- the frame that goes down, and the answer that comes back
@@ -261,9 +261,9 @@ placed_by Q p (Ok x) back is told = told
 placed_by Q p (Err d) back is told =
     let (e, back_is, q) = err_from_is_err_and back told in back_is ∙ ap (λ x. Err x) (is d e q)
 
-pub sends_down : (h gap : ℕ) (m n : Meaning) (f below : Sent) (old new : List ℕ) (r back : Result Reply (Fault ℕ)) → Lawful m → below ≡ lowered (shift h m.kind) f → back ≡ placed (place f) r → Sends m gap below old r n new → Sends (window h m) gap f old back (window h n) new
-sends_down h gap m n f below old new r back law below_is back_is sends =
-    rw back_is (sends_above h gap m n f old new r law (subst (λ g. Sends m gap g old r n new) below_is sends))
+pub sends_down : (h gap : ℕ) (m n : Meaning) (f below : Sent) (old new : List ℕ) (r back : Result Reply (Fault ℕ)) → h < m.kind.pages → Lawful m → below ≡ lowered (shift h m.kind) f → back ≡ placed (place f) r → Sends m gap below old r n new → Sends (window h m) gap f old back (window h n) new
+sends_down h gap m n f below old new r back some law below_is back_is sends =
+    rw back_is (sends_above h gap m n f old new r some law (subst (λ g. Sends m gap g old r n new) below_is sends))
 
 -- ---- a reset
 

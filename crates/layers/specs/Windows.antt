@@ -7,16 +7,12 @@ use Rattle.chip.specs.Frames.{Sent, read, write, register_read, register_write, 
 use Rattle.chip.specs.Meaning.{Meaning}
 use Rattle.chip.specs.declared.parts.Kind.{Kind}
 
--- the pages that are hidden: one at least is left to see
-abbrev pub hides : ℕ → Kind → ℕ
-hides hidden k = min hidden (k.pages - 1)
-
 -- how far the addresses are moved
 abbrev pub shift : ℕ → Kind → ℕ
-shift hidden k = hides hidden k * page k.make
+shift hidden k = hidden * page k.make
 
 abbrev pub window_kind : ℕ → Kind → Kind
-window_kind hidden k = record { make = k.make; pages = k.pages - hides hidden k; clock = k.clock }
+window_kind hidden k = record { make = k.make; pages = k.pages - hidden; clock = k.clock }
 
 -- byte a is the byte below at a + shift, refreshed as that is; all else is as below
 abbrev pub window : ℕ → Meaning → Meaning

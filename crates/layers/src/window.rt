@@ -10,9 +10,10 @@ use fault::{Fault, Refusal, Returned};
 use register::Coverage;
 
 #[derive(Drop)]
-pub struct Window<C> {
+pub struct Window<C: Chip> {
     chip: C,
     hidden: u32,
+    ghost some: { hidden < (C.Chip.meaning chip).kind.pages },
 }
 
 impl<C: Chip> Window<C> {
@@ -40,20 +41,19 @@ impl<C: Chip> Window<C> {
     pub(crate) fn shift(&self) -> u32
         ensures { result ≡ shift self.now.hidden (C.Chip.meaning self.now.chip).kind }
     {
-        let kind = self.chip.kind();
-        self.hidden.min(kind.pages - 1) * kind.make.page()
+        self.hidden * self.chip.kind().make.page()
     }
 }
 
 impl<C: Chip> Chip for Window<C> {
     ghost meaning = { λ w. window w.hidden (C.Chip.meaning w.chip) };
 
-    ghost lawful = { λ w. lawful_window _ _ (C.Chip.lawful w.chip) };
+    ghost lawful = { λ w. lawful_window _ _ w.some (C.Chip.lawful w.chip) };
 
     fn kind(&self) -> Kind {
         let kind = self.chip.kind();
         Kind {
-            pages: kind.pages - self.hidden.min(kind.pages - 1),
+            pages: kind.pages - self.hidden,
             ..kind
         }
     }

@@ -18,4 +18,4 @@ returns g c =
       | in-Write w ↦ write_down by f _ _ w.in-Write.start _ n _ _ w.in-Write.is w.below-is (w.saturating_add-in-Write.ensures ∙ ap (λ x. moved x w.in-Write.start) c.shift-shift.ensures)
       | in_default w ↦ same_down by f _ n w.below-is w.in_default.not-Read w.in_default.not-Write
     ] in
-    sends_down w.hidden c.args.gap m _ (sent f n) _ _ _ _ _ (g.met.C.Chip.lawful w.chip) below_is (placed_by _ _ _ _ (λ d e post. search rules) c.map_err.ensures.cases ∙ ap (λ p. placed p c.send.result) (c.place-place.ensures n)) c.send.ensures
+    sends_down w.hidden c.args.gap m _ (sent f n) _ _ _ _ _ w.some (g.met.C.Chip.lawful w.chip) below_is (placed_by _ _ _ _ (λ d e post. search rules) c.map_err.ensures.cases ∙ ap (λ p. placed p c.send.result) (c.place-place.ensures n)) c.send.ensures
