@@ -80,7 +80,7 @@ impl Frame<'_> {
         self.carries(state, room, latency).low_clocks()
     }
 
-    // Whether CE# would be low for longer than tCEM, a read with twice its latency.
+    // Whether CE# would be low for longer than tCEM, a memory read counted with 2 LC.
     fn too_long(self, kind: Kind, state: State, room: usize) -> bool
         ensures { result ≡ too_long kind state (sent self.entry room) }
     {

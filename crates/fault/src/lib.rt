@@ -49,9 +49,10 @@ pub enum Refusal {
     TooSoon,
     // 15: a memory frame starts at an odd address, or at or past the size
     BadStart,
-    // 16: a frame of no bytes, or a write of an odd count or unlike its mask
+    // 16: a memory frame of no bytes, a write of an odd number of bytes, or one whose mask has
+    // another size
     BadCount,
-    // 17: CE# would be low for longer than tCEM, a read counted with twice its latency
+    // 17: CE# would be low for longer than tCEM, a memory read counted with 2 LC
     TooLong,
     // 18: the register cannot be read or written, or the value is reserved
     BadRegister,

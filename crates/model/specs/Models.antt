@@ -69,6 +69,7 @@ variable m = strobe_stays m && not (fixed (mr0 m.state.mr0).kind)
 abbrev pub latency : Model → ℕ
 latency m = cond (variable m && m.word / 2 ^ m.turn % 2 == 0) (clocks (read_latency m.state)) (2 * clocks (read_latency m.state))
 
+-- what a model chooses of what a frame leaves free
 abbrev pub choice : Model → FreeByFrame
 choice m = record { strobe = strobe_stays m; latency = latency m; byte = λ a. slice_index m.store a }
 
@@ -107,6 +108,7 @@ answered_after m global_reset = 0
 
 -- ---- one frame
 
+-- the model after a frame that is taken
 abbrev pub taken : Model → Sent → Model
 taken m f = record {
   kind = m.kind;
@@ -132,6 +134,7 @@ pub record Outcome : Type 0 where
   pub answer : Result Reply (Fault ℕ)
   pub buffer : List ℕ
 
+-- by what refuses the frame, if anything does
 abbrev pub judged : Option Refusal → Model → Sent → List ℕ → Outcome
 judged (Some e) m f old = record { model = m; answer = Err (fault_at e (place f)); buffer = old }
 judged None m f old = record {
