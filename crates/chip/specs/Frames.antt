@@ -1,4 +1,4 @@
--- What one frame, or a reset, does to a chip. Assumes nothing.
+-- What one frame does to a chip. Assumes nothing.
 use Rattle.std.specs.Prelude.{◌≡◌, ℕ, zero, suc, ◌+◌, ◌-◌, ◌*◌, ◌%◌, ◌<◌, ◌≤◌, max, Bool, true, false, cond, not, ◌&&◌, ◌||◌, List, [], ◌∷◌, length, Some, None, Ok, Err, MatchBool, Option, Result, ◌==◌, nat_le, nat_lt, slice_index}
 use Rattle.std.specs.Option.{unwrap_or}
 use Rattle.clock.specs.Times.{clocks}
@@ -52,7 +52,7 @@ place (register_read r) = 0
 place (register_write r v) = 0
 place global_reset = 0
 
--- what goes over the bus, a read with this latency
+-- what goes over the bus, a memory read with this latency
 abbrev pub carries : State → Sent → ℕ → Transfer
 carries s (read b a n) l = transfer.Read l n
 carries s (write b a d m) l = transfer.Write (write_latency s) (length d)
@@ -60,7 +60,7 @@ carries s (register_read r) l = transfer.RegisterRead (read_latency s)
 carries s (register_write r v) l = transfer.RegisterWrite
 carries s global_reset l = transfer.GlobalReset
 
--- the low clocks of a frame, a read with this latency
+-- the low clocks of a frame, a memory read with this latency
 abbrev pub low_for : State → Sent → ℕ → ℕ
 low_for s f l = low_clocks (carries s f l)
 
@@ -104,7 +104,7 @@ bad_count (register_read r) = false
 bad_count (register_write r v) = false
 bad_count global_reset = false
 
--- the low clocks exceed tCEM, a read counted with 2 LC in either latency type
+-- the low clocks exceed tCEM, a memory read counted with 2 LC in either latency type
 abbrev pub too_long : Kind → State → Sent → Bool
 too_long k s f = nat_lt k.clock.tcem (low_for s f (2 * clocks (read_latency s)))
 
@@ -143,7 +143,7 @@ refused k s gap f = first ((not (takes s.phase (wakes f)), WrongPhase) ∷ tests
 pub record FreeByFrame : Type 0 where
   -- the strobe is there once the frame has started
   pub strobe : Bool
-  -- the latency, of a read
+  -- the latency, of a memory read
   pub latency : ℕ
   -- the bytes that are not held
   pub byte : ℕ → ℕ
@@ -158,7 +158,7 @@ pub record LatencyAllowed (s : State) (strobe : Bool) (l : ℕ) : Type 0 where
   pub most : l ≤ 2 * clocks (read_latency s)
   pub full : (fixed (mr0 s.mr0).kind || not strobe) ≡ true → l ≡ 2 * clocks (read_latency s)
 
--- what it may be
+-- the strobe and the latency that a frame may have
 pub record Allowed (s : State) (free : FreeByFrame) : Type 0 where
   -- no frame brings the strobe back
   pub strobe : free.strobe ≡ true → s.strobe ≡ true
@@ -250,8 +250,8 @@ stored k s global_reset x old = old
 abbrev pub holds : Meaning → Meaning → Sent → ℕ → Bool
 holds m n f x = not (wakes f) && (strobe_at n x && (refreshed m x && refreshed n x))
 
--- a frame that is taken is answered, by the chip after it; else it is 19. A read needs the strobe at the address that it
--- starts from, which is enough, as one strobe serves all; a register read needs it too, and other frames do not
+-- whether a frame that is taken is answered, by the chip after it; if not, it is 19. A read needs the strobe at the
+-- address that it starts from (one strobe serves all addresses), a register read needs its own, other frames need none
 abbrev pub answered : Meaning → Sent → Bool
 answered n (read b a c) = strobe_at n a
 answered n (write b a d m) = true

@@ -20,13 +20,14 @@ pub trait Chip {
     fn state(&self) -> State
         ensures { result ≡ (meaning self.now).state };
 
-    // Whether a coverage refreshes each of `count` addresses from `from` on. Not a `Span`: the sum of
-    // both need not fit in its end.
+    // Whether a coverage refreshes each of `count` addresses from `from` on. Not a `Span`, since
+    // `from + count` need not fit in a `u32`.
     fn refreshed(&self, coverage: Coverage, from: u32, count: u32) -> bool
         ensures { Decides result ((a : ℕ) → from ≤ a → a < from + count → (meaning self.now).refreshes coverage a ≡ true) };
 
     // Sends one frame after a gap of so many clocks. A read that is answered fills the buffer, which
-    // else stays as it was. Gap, frame and buffer are apart: a layer changes the frame alone.
+    // else stays as it was. Gap, frame and buffer are apart: on the way down a layer changes the
+    // frame alone.
     fn send(&mut self, gap: u32, frame: Frame<'_>, buffer: &mut [u8]) -> Result<Reply, Fault>
         ensures { Sends (meaning self.old) gap (sent frame.entry (length buffer.old)) buffer.old result (meaning self.new) buffer.new };
 

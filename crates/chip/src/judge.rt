@@ -1,4 +1,4 @@
-// What refuses a frame that the phase takes, and how long it is low.
+// What refuses a frame that the phase takes, with its place, and how long it is low.
 ghost use Rattle.std.specs.Prelude.{◌≡◌, ℕ, None, Some, MatchResult, nat_lt};
 ghost use Rattle.chip.specs.Frames.{sent, place, carries, low_for, least_gap, bad_start, bad_count, too_long, bad_register, unfit};
 
@@ -25,6 +25,16 @@ fn too_soon(kind: Kind, state: State, gap: u32) -> bool
 }
 
 impl Frame<'_> {
+    // The place of a fault: the start of a memory frame, else 0.
+    pub fn place(self) -> u32
+        ensures { (n : ℕ) → result ≡ place (sent self.entry n) }
+    {
+        match self {
+            Frame::Read { start, .. } | Frame::Write { start, .. } => start,
+            Frame::RegisterRead { .. } | Frame::RegisterWrite { .. } | Frame::GlobalReset => 0,
+        }
+    }
+
     // Whether it is a memory frame that starts at an odd address, or at or past the size.
     fn bad_start(self, kind: Kind) -> bool
         ensures { (n : ℕ) → result ≡ bad_start kind (sent self.entry n) }
@@ -51,7 +61,7 @@ impl Frame<'_> {
         }
     }
 
-    // What goes over the bus, a read with this latency.
+    // What goes over the bus, a memory read with this latency.
     fn carries(self, state: State, room: usize, latency: u32) -> Transfer
         ensures { result ≡ carries state (sent self.entry room) latency }
     {
@@ -72,8 +82,8 @@ impl Frame<'_> {
         }
     }
 
-    // How long CE# is low for it, a read with this latency. A read has as many bytes as its buffer
-    // has room.
+    // How long CE# is low for it, a memory read with this latency. A read has as many bytes as its
+    // buffer has room.
     pub fn low_clocks(self, state: State, room: usize, latency: u32) -> u64
         ensures { result ≡ low_for state (sent self.entry room) latency }
     {
@@ -99,8 +109,8 @@ impl Frame<'_> {
         }
     }
 
-    // Judges a frame that the phase takes: refused by the first of 14, 15, 16, 17 and 18 that
-    // applies, or taken.
+    // What refuses a frame that the phase takes: the first of 14, 15, 16, 17 and 18 that applies, if
+    // any does. 13 is the chip's.
     #[tactic(auto, unfolding(crate::specs::Frames::first))]
     pub fn judge(self, kind: Kind, state: State, gap: u32, room: usize) -> Result<(), Fault>
         ensures { MatchResult result (λ _. unfit kind state gap (sent self.entry room) ≡ None) (λ e. (unfit kind state gap (sent self.entry room) ≡ Some e.refusal) × (e.place ≡ place (sent self.entry room))) }

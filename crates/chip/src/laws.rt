@@ -1,7 +1,7 @@
 // One frame sent, with its low clocks, and the opening bytes of a frame; the laws of whole runs.
 ghost use Rattle.std.specs.Prelude.{◌≡◌, ℕ, length};
 ghost use Rattle.chip.specs.Exchanges.{low_by_answer, Exchanged};
-ghost use Rattle.chip.specs.Frames.{sent, place};
+ghost use Rattle.chip.specs.Frames.{sent};
 ghost use Rattle.chip.specs.Runs.{sending, ChangedByWritesOnly, CountsRiseByWhatWasSent, RefusedLeavesEverything, StrobeReturnsByResetAlone, PartNeverChanges};
 ghost use Rattle.chip.specs.Wire.{command_of_frame, address_of_frame, opening_of_frame, Decodes, TakenHasOpening, SameOnTheWire};
 
@@ -20,7 +20,7 @@ pub struct Outcome {
 
 // How long CE# was low for a frame with this answer. A read without the strobe was sent; what was
 // refused was not.
-fn low_clocks(answer: Result<Reply, Fault>, latest: u64) -> u64
+fn low_by_answer(answer: Result<Reply, Fault>, latest: u64) -> u64
     ensures { result ≡ low_by_answer answer latest }
 {
     match answer.map_err(|fault| fault.refusal) {
@@ -40,21 +40,11 @@ pub fn exchange<C: Chip>(chip: &mut C, gap: u32, frame: Frame<'_>, buffer: &mut 
     ensures part_never_changes { PartNeverChanges }
 {
     let answer = chip.send(gap, frame, buffer);
-    let low = low_clocks(answer, chip.state().low);
+    let low = low_by_answer(answer, chip.state().low);
     Outcome { answer, low }
 }
 
 impl Frame<'_> {
-    // The place of a fault: the start of a memory frame, else 0.
-    pub fn place(self) -> u32
-        ensures { (n : ℕ) → result ≡ place (sent self.entry n) }
-    {
-        match self {
-            Frame::Read { start, .. } | Frame::Write { start, .. } => start,
-            Frame::RegisterRead { .. } | Frame::RegisterWrite { .. } | Frame::GlobalReset => 0,
-        }
-    }
-
     // The command of this frame, and the address that its opening bytes carry.
     fn command(self) -> (Command, u32)
         ensures { (n : ℕ) → result ≡ (command_of_frame (sent self.entry n), address_of_frame (sent self.entry n)) }

@@ -1,5 +1,5 @@
-// What a chip is: its meaning, what a frame and a reset do to it, and the questions that it answers;
-// what is true of every run of frames and resets.
+// What a chip is: its meaning, what refuses a frame, what a frame and a reset do to it, and the
+// questions that it answers; what is true of every run of frames and resets.
 #![tactic(auto)]
 
 mod interface;

@@ -49,8 +49,8 @@ pub enum Refusal {
     TooSoon,
     // 15: a memory frame starts at an odd address, or at or past the size
     BadStart,
-    // 16: a memory frame of no bytes, a write of an odd number of bytes, or one whose mask has
-    // another size
+    // 16: a memory frame of no bytes, a write of an odd number of bytes, or a write whose mask has
+    // the wrong size
     BadCount,
     // 17: CE# would be low for longer than tCEM, a memory read counted with 2 LC
     TooLong,

@@ -70,10 +70,6 @@ even_pages : (m : Make) (q : ℕ) → q * page m % 2 ≡ 0
 even_pages make.A q = omega arith
 even_pages make.S q = omega arith
 
-some_page : (m : Make) → 1 ≤ page m
-some_page make.A = omega arith
-some_page make.S = omega arith
-
 -- a range of addresses, moved
 range_moved : (h : ℕ) (m : Meaning) (c : Coverage) (from count : ℕ) → Lawful m → ((a : ℕ) → moved (shift h m.kind) from ≤ a → a < moved (shift h m.kind) from + count → m.refreshes c a ≡ true) → (a : ℕ) → from ≤ a → a < from + count → m.refreshes c (a + shift h m.kind) ≡ true
 range_moved h m c from count law below a low high =

@@ -25,7 +25,7 @@ within make.S pages q a h = omega arith
 pub inside_window : (h : ℕ) (m : Meaning) → Lawful m → (c : Coverage) (a : ℕ) → (window h m).refreshes c a ≡ true → a < size (window h m).kind
 inside_window h m law c a is = within m.kind.make m.kind.pages h a (law.inside c (a + shift h m.kind) is)
 
--- what is true of every chip is true of a window over one that leaves a page to see
+-- what is true of every chip is true of a window over one, where a page is left to see
 pub lawful_window : (h : ℕ) (m : Meaning) → h < m.kind.pages → Lawful m → Lawful (window h m)
 lawful_window h m some law =
     let whole = parts h m.kind some in

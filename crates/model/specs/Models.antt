@@ -7,7 +7,7 @@ use Rattle.fault.specs.declared.Fault.{Fault}
 use Rattle.fault.specs.declared.Refusal.{Refusal}
 use Rattle.mask.specs.Masks.{masked}
 use Rattle.register.specs.Registers.{mr0, kept}
-use Rattle.chip.specs.Frames.{Sent, read, write, register_read, register_write, global_reset, place, refused, fixed, FreeByFrame, after, address, answered, answer_by}
+use Rattle.chip.specs.Frames.{Sent, read, write, register_read, register_write, global_reset, place, low_for, refused, fixed, ended, address, answered, answer_by}
 use Rattle.chip.specs.Meaning.{Meaning, size, read_latency}
 use Rattle.chip.specs.Resets.{reset_refused, after_pulse}
 use Rattle.chip.specs.declared.parts.Kind.{Kind}
@@ -69,10 +69,6 @@ variable m = strobe_stays m && not (fixed (mr0 m.state.mr0).kind)
 abbrev pub latency : Model → ℕ
 latency m = cond (variable m && m.word / 2 ^ m.turn % 2 == 0) (clocks (read_latency m.state)) (2 * clocks (read_latency m.state))
 
--- what a model chooses of what a frame leaves free
-abbrev pub choice : Model → FreeByFrame
-choice m = record { strobe = strobe_stays m; latency = latency m; byte = λ a. slice_index m.store a }
-
 -- ---- the store
 
 -- the store after the first n bytes of a write
@@ -112,7 +108,7 @@ answered_after m global_reset = 0
 abbrev pub taken : Model → Sent → Model
 taken m f = record {
   kind = m.kind;
-  state = after m.kind m.state f (choice m);
+  state = ended m.kind m.state f (low_for m.state f (latency m)) (strobe_stays m);
   store = store_after m f;
   word = m.word;
   strobes = m.strobes;

@@ -17,7 +17,7 @@ fn keeps(kept: Span, from: u32, count: u32) -> bool
 
 impl Device {
     // The size in bytes.
-    pub(crate) fn size(&self) -> u32
+    fn size(&self) -> u32
         ensures { result ≡ size self.now.kind }
     {
         self.kind.pages * self.kind.make.page()

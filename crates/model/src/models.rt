@@ -1,4 +1,4 @@
-// The models of both makes: one type over one code, with the make as a part of the type.
+// The models of both makes: one type, with the make as a part of it.
 ghost use Rattle.std.specs.Prelude.{◌≡◌, length, Some, None, MatchResult};
 ghost use Rattle.chip.specs.Frames.{sent, Sends};
 ghost use Rattle.chip.specs.Resets.{Resets};

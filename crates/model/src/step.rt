@@ -2,17 +2,16 @@
 ghost use Rattle.std.specs.Prelude.{◌≡◌, ◌+◌, ◌-◌, ◌%◌, ◌^◌, ◌<◌, min, map, length, if◌then◌else◌, slice_index};
 ghost use Rattle.std.specs.List.{range_with_len};
 ghost use Rattle.chip.specs.Frames.{address, counted, register, with_register};
-ghost use Rattle.chip.specs.Meaning.{size, read_latency};
+ghost use Rattle.chip.specs.Meaning.{size};
 ghost use Rattle.model.specs.Models.{inside, with_state, with_counts, with_store, strobe_stays, variable, latency, put};
 
 use crate::device::Device;
 use crate::make::reset_value;
-use clock::Latency;
 use frame::Burst;
 use mask::masked;
 use register::{LatencyType, Mr0, on_wire};
 
-// What of the next frame a model chooses.
+// What a model chooses about the next frame.
 #[derive(Clone, Copy)]
 pub(crate) struct Choice {
     // the strobe is there once the frame has started
@@ -24,13 +23,6 @@ pub(crate) struct Choice {
 }
 
 impl Device {
-    // The latency that MR0 holds.
-    pub(crate) fn lc(&self) -> Latency
-        ensures { result ≡ read_latency self.now.state }
-    {
-        Mr0::from(self.state.mr0).lc
-    }
-
     // Which strobe and which latency come with the next frame, by the refresh word and the counts:
     // the strobe goes when as many reads are answered as the strobe count says, and a variable
     // read takes LC where its bit of the word is clear.
@@ -41,8 +33,9 @@ impl Device {
     {
         let strobe = self.state.strobe
             && (self.strobes == 0 || self.answered < u32::from(self.strobes));
-        let varies = strobe && matches!(Mr0::from(self.state.mr0).kind, LatencyType::Variable);
-        let least = self.lc().clocks();
+        let mr0 = Mr0::from(self.state.mr0);
+        let varies = strobe && matches!(mr0.kind, LatencyType::Variable);
+        let least = mr0.lc.clocks();
         let clear = (self.word >> self.turn) % 2 == 0;
         let latency = if varies && clear { least } else { 2 * least };
         Choice {
@@ -52,7 +45,7 @@ impl Device {
         }
     }
 
-    // A frame of so many low clocks is over: it counts, and no wait is due any more.
+    // Counts a frame of so many low clocks, with the strobe as it is after it; no wait is due any more.
     pub(crate) fn count(&mut self, low: u64, strobe: bool)
         ensures { inside self.new ≡ with_state (inside self.old) (counted self.old.state low strobe) }
     {

@@ -1,5 +1,5 @@
 // Any frame, in any phase, and the reset.
-ghost use Rattle.std.specs.Prelude.{◌≡◌, length};
+ghost use Rattle.std.specs.Prelude.{length};
 ghost use Rattle.chip.specs.Frames.{sent};
 ghost use Rattle.model.specs.Models.{inside, Steps, Restarts};
 
@@ -14,7 +14,7 @@ impl Device {
         ensures { Steps (inside self.old) gap (sent frame.entry (length buffer.old)) buffer.old result (inside self.new) buffer.new }
     {
         let room = buffer.len();
-        // the phase is judged before all else, by the arms
+        // 14 to 18; an arm asks for them where the phase takes the frame, so that 13 goes first
         let judged = frame.judge(self.kind, self.state, gap, room);
         let choice = self.choice();
         let low = frame.low_clocks(self.state, room, choice.latency);

@@ -8,7 +8,7 @@ use Rattle.chip.proofs.laws.exchange.Goals as goal
 
 pub returns : goal.returns
 returns g c = record {
-  exchanged = exchanged_by _ _ _ _ _ _ _ _ c.send-answer.ensures (c.low_clocks-low.ensures ∙ ap (λ s. low_by_answer c.send-answer.result s.low) c.state.ensures) (fit_by _ c.state.result c.state.ensures (omega arith) (omega arith));
+  exchanged = exchanged_by _ _ _ _ _ _ _ _ c.send-answer.ensures (c.low_by_answer-low.ensures ∙ ap (λ s. low_by_answer c.send-answer.result s.low) c.state.ensures) (fit_by _ c.state.result c.state.ensures (omega arith) (omega arith));
   changed_by_writes_only = changed_by_writes_only;
   counts_rise_by_what_was_sent = counts_rise_by_what_was_sent;
   refused_leaves_everything = refused_leaves_everything;
