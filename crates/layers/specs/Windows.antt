@@ -1,11 +1,12 @@
 -- A window over a chip: it hides the first pages. Assumes nothing.
-use Rattle.std.specs.Prelude.{ℕ, ◌+◌, ◌-◌, ◌*◌, ◌^◌, min, Ok, Err, Result}
+use Rattle.std.specs.Prelude.{◌≡◌, ℕ, ◌+◌, ◌-◌, ◌*◌, ◌^◌, min, List, Ok, Err, Result}
 use Rattle.fault.specs.Refusals.{fault_at}
 use Rattle.fault.specs.declared.Fault.{Fault}
 use Rattle.frame.specs.Pages.{page}
-use Rattle.chip.specs.Frames.{Sent, read, write, register_read, register_write, global_reset}
+use Rattle.chip.specs.Frames.{Sent, read, write, register_read, register_write, global_reset, place, Sends}
 use Rattle.chip.specs.Meaning.{Meaning}
 use Rattle.chip.specs.declared.parts.Kind.{Kind}
+use Rattle.chip.specs.declared.parts.Reply.{Reply}
 
 -- how far the addresses are moved
 abbrev pub shift : ℕ → Kind → ℕ
@@ -38,3 +39,9 @@ lowered by (write b a d m) = write b (moved by a) d m
 lowered by (register_read r) = register_read r
 lowered by (register_write r v) = register_write r v
 lowered by global_reset = global_reset
+
+-- the frame was sent to the chip below with its start moved, and a fault came back with the place as it was called
+pub record SentBelow (hidden : ℕ) (m : Meaning) (gap : ℕ) (f : Sent) (old : List ℕ) (r : Result Reply (Fault ℕ)) (n : Meaning) (new : List ℕ) : Type 0 where
+  pub answer : Result Reply (Fault ℕ)
+  pub sends : Sends m gap (lowered (shift hidden m.kind) f) old answer n new
+  pub comes_back : r ≡ placed (place f) answer

@@ -1,8 +1,10 @@
 // A window hides the first pages of the chip below.
-ghost use Rattle.std.specs.Prelude.{◌≡◌, ◌<◌, ◌≤◌, MatchResult};
+ghost use Rattle.std.specs.Prelude.{◌≡◌, ◌<◌, ◌≤◌, length, MatchResult};
 ghost use Rattle.fault.specs.Refusals.{fault_at};
 ghost use Rattle.fault.specs.declared.Refusal.TheVariants.{WindowTooLarge};
-ghost use Rattle.layers.specs.Windows.{window, shift};
+ghost use Rattle.chip.specs.Frames.{sent, Sends};
+ghost use Rattle.chip.specs.Resets.{Resets};
+ghost use Rattle.layers.specs.Windows.{window, shift, SentBelow};
 ghost use Rattle.layers.specs.LawfulWindows.{lawful_window};
 
 use chip::{Chip, Frame, Kind, Reply, State};
@@ -67,7 +69,10 @@ impl<C: Chip> Chip for Window<C> {
             .refreshed(coverage, from.saturating_add(self.shift()), count)
     }
 
-    fn send(&mut self, gap: u32, frame: Frame<'_>, buffer: &mut [u8]) -> Result<Reply, Fault> {
+    fn send(&mut self, gap: u32, frame: Frame<'_>, buffer: &mut [u8]) -> Result<Reply, Fault>
+        ensures sends { Sends (window self.old.hidden (C.Chip.meaning self.old.chip)) gap (sent frame.entry (length buffer.old)) buffer.old result (window self.new.hidden (C.Chip.meaning self.new.chip)) buffer.new }
+        ensures below { SentBelow self.old.hidden (C.Chip.meaning self.old.chip) gap (sent frame.entry (length buffer.old)) buffer.old result (C.Chip.meaning self.new.chip) buffer.new }
+    {
         let shift = self.shift();
         let place = frame.place();
         let below = match frame {
@@ -94,7 +99,10 @@ impl<C: Chip> Chip for Window<C> {
     }
 
     #[tactic(auto, using(crate::proofs::Windows::resets_above))]
-    fn reset(&mut self, pulse: u32) -> Result<(), Fault> {
+    fn reset(&mut self, pulse: u32) -> Result<(), Fault>
+        ensures resets { Resets (window self.old.hidden (C.Chip.meaning self.old.chip)) pulse result (window self.new.hidden (C.Chip.meaning self.new.chip)) }
+        ensures below { Resets (C.Chip.meaning self.old.chip) pulse result (C.Chip.meaning self.new.chip) }
+    {
         self.chip.reset(pulse)
     }
 }

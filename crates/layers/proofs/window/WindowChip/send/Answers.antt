@@ -1,7 +1,7 @@
 use Rattle.std.proofs.Common.{◌≡◌, length, ap, ◌∙◌, rules}
 use Rattle.chip.specs.Frames.{sent}
 use Rattle.layers.specs.Windows.{shift, moved, lowered, placed}
-use Rattle.layers.proofs.Windows.{read_down, write_down, same_down, placed_by, sends_down}
+use Rattle.layers.proofs.Windows.{read_down, write_down, same_down, placed_by, sent_below, sends_down}
 use Rattle.layers.proofs.window.WindowChip.send.Goals as goal
 use Rattle.layers.proofs.window.WindowChip.send.Goals.{in-Read, in-Write, in_default}
 
@@ -18,4 +18,5 @@ returns g c =
       | in-Write w ↦ write_down by f _ _ w.in-Write.start _ n _ _ w.in-Write.is w.below-is (w.saturating_add-in-Write.ensures ∙ ap (λ x. moved x w.in-Write.start) c.shift-shift.ensures)
       | in_default w ↦ same_down by f _ n w.below-is w.in_default.not-Read w.in_default.not-Write
     ] in
-    sends_down w.hidden c.args.gap m _ (sent f n) _ _ _ _ _ w.some (g.met.C.Chip.lawful w.chip) below_is (placed_by _ _ _ _ (λ d e post. search rules) c.map_err.ensures.cases ∙ ap (λ p. placed p c.send.result) (c.place-place.ensures n)) c.send.ensures
+    let below = sent_below w.hidden c.args.gap m _ (sent f n) _ _ _ _ _ below_is (placed_by _ _ _ _ (λ d e post. search rules) c.map_err.ensures.cases ∙ ap (λ p. placed p c.send.result) (c.place-place.ensures n)) c.send.ensures in
+    record { sends = sends_down w.hidden c.args.gap m _ (sent f n) _ _ _ w.some (g.met.C.Chip.lawful w.chip) below; below = below }
