@@ -2,7 +2,7 @@
 // record's place, and the frames that read and write it.
 #![tactic(auto)]
 
-use clock::{Clock, Range};
+use clock::{Clock, TemperatureRange};
 use frame::{Command, Make, Span, Transfer};
 use split::{Direction, Splitter, frames_of, rounded};
 use std::{fmt, io};
@@ -86,7 +86,7 @@ impl fmt::Display for Frame {
             Direction::Read => ("read", Command::LinearRead),
             Direction::Write => ("write", Command::LinearWrite),
         };
-        let opening = OpeningBytes(command.opening(self.piece.from));
+        let opening = OpeningBytes(command.opening_bytes(self.piece.from));
         let bytes = self.piece.bytes();
         let (least, most) = self.low_clocks();
         let left = u64::from(self.clock.tcem).saturating_sub(most);
@@ -120,7 +120,7 @@ fn record(rt: &HostRuntime, make: Make, clock: Clock) -> io::Result<()> {
     Ok(())
 }
 
-fn sheet(rt: &HostRuntime, make: Make, range: Range, khz: u32) -> io::Result<()> {
+fn sheet(rt: &HostRuntime, make: Make, range: TemperatureRange, khz: u32) -> io::Result<()> {
     print!(rt; "{make} {range} {khz} kHz: ")?;
     match Clock::new(khz, range) {
         Ok(clock) => {
@@ -129,7 +129,7 @@ fn sheet(rt: &HostRuntime, make: Make, range: Range, khz: u32) -> io::Result<()>
             record(rt, make, clock)
         }
         Err(refusal) => {
-            let number = refusal.account().number;
+            let number = refusal.details().number;
             println!(rt; "refused by {number}")
         }
     }
@@ -138,7 +138,7 @@ fn sheet(rt: &HostRuntime, make: Make, range: Range, khz: u32) -> io::Result<()>
 fn main(rt: HostRuntime) -> io::Result<()> {
     println!(rt; "a record of {LENGTH} bytes at {START:06X}")?;
     for make in [Make::A, Make::S] {
-        for range in [Range::Normal, Range::Extended] {
+        for range in [TemperatureRange::Normal, TemperatureRange::Extended] {
             for khz in CLOCKS {
                 sheet(&rt, make, range, khz)?;
             }

@@ -6,7 +6,7 @@ mod steps;
 mod trace;
 
 use chip::Chip;
-use clock::Range;
+use clock::TemperatureRange;
 use fault::{Fault, Returned};
 use layers::{Scrambler, Window};
 use model::{Model, Part, PartA, PartS};
@@ -54,7 +54,7 @@ impl From<AllocError> for Stop {
 // A model of a part.
 fn model<P: Part>(rt: &HostRuntime) -> Result<Model<P>, Stop> {
     let store = vec![in rt.alloc(); 0; PAGES * P::MAKE.page() as usize]?;
-    Ok(Model::new(store, KHZ, Range::Normal, WORD, STROBES)?)
+    Ok(Model::new(store, KHZ, TemperatureRange::Normal, WORD, STROBES)?)
 }
 
 fn traces(rt: &HostRuntime) -> Result<(), Stop> {
@@ -79,7 +79,7 @@ fn main(rt: HostRuntime) -> io::Result<()> {
     match traces(&rt) {
         Ok(()) => Ok(()),
         Err(Stop::Refused(fault)) => {
-            println!(rt; "  refused by {}", fault.refusal.account().number)
+            println!(rt; "  refused by {}", fault.refusal.details().number)
         }
         Err(Stop::Io(e)) => Err(e),
     }

@@ -2,7 +2,7 @@
 use chip::Frame;
 use clock::Clock;
 use frame::{Block, Burst};
-use register::{Coverage, LatencyType, Line, Mr0, Mr4};
+use register::{Coverage, LatencyType, CacheLine, Mr0, Mr4};
 use std::fmt;
 
 // MR8 for hybrid bursts with a block of 16 bytes.
@@ -88,7 +88,7 @@ impl fmt::Display for Step {
     fn fmt<W: fmt::Write>(&self, f: &mut fmt::Formatter<W>) -> fmt::Result {
         match *self {
             Step::Send { gap, frame, bytes } => {
-                match frame.opening() {
+                match frame.opening_bytes() {
                     Some(bytes) => {
                         let [code, a3, a2, a1, a0] = bytes;
                         write!(f, "{code:02X} {a3:02X} {a2:02X} {a1:02X} {a0:02X}")?;
@@ -131,7 +131,7 @@ pub fn bursts(clock: &Clock, page: u32) -> [Step; 9] {
     [
         write(gap, Burst::Linear, edge, MASKED),
         read(gap, Burst::Linear, edge, 24),
-        register_write(gap, 8, Line::Bytes16.mr8()),
+        register_write(gap, 8, CacheLine::Bytes16.mr8()),
         write(gap, wrapped, 4, LONG),
         read(gap, wrapped, 8, 16),
         register_write(gap, 8, HYBRID_16),

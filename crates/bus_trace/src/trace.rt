@@ -12,9 +12,9 @@ struct Refused(Fault);
 impl fmt::Display for Refused {
     fn fmt<W: fmt::Write>(&self, f: &mut fmt::Formatter<W>) -> fmt::Result {
         let Fault { refusal, place } = self.0;
-        let account = refusal.account();
-        write!(f, "refused by {} at {place}", account.number)?;
-        match account.good {
+        let details = refusal.details();
+        write!(f, "refused by {} at {place}", details.number)?;
+        match details.good {
             Some(good) => write!(f, ", {good} good"),
             None => Ok(()),
         }
@@ -59,10 +59,10 @@ fn play_all<C: Chip>(rt: &HostRuntime, chip: &mut C, steps: &[Step]) -> io::Resu
 
 // Which pages the bottom half of the chip refreshes.
 fn coverage<C: Chip>(rt: &HostRuntime, chip: &C) -> io::Result<()> {
-    let kind = chip.kind();
-    let page = kind.make.page();
+    let config = chip.config();
+    let page = config.make.page();
     print!(rt; "  refreshed by the bottom half:")?;
-    for number in 0..kind.pages {
+    for number in 0..config.pages {
         let from = number.saturating_mul(page);
         let kept = chip.refreshed(Coverage::BottomHalf, from, page);
         print!(rt; " {}", if kept { "yes" } else { "no" })?;
@@ -72,15 +72,15 @@ fn coverage<C: Chip>(rt: &HostRuntime, chip: &C) -> io::Result<()> {
 
 // The whole sequence, and the counts at its end.
 pub fn trace<C: Chip>(rt: &HostRuntime, chip: &mut C) -> io::Result<()> {
-    let kind = chip.kind();
-    let page = kind.make.page();
+    let config = chip.config();
+    let page = config.make.page();
     let drive = chip.state().mr0;
-    println!(rt; "  {} pages of {page} bytes", kind.pages)?;
-    play_all(rt, chip, &waking(&kind.clock, drive))?;
-    play_all(rt, chip, &bursts(&kind.clock, page))?;
-    play_all(rt, chip, &settings(&kind.clock, drive))?;
+    println!(rt; "  {} pages of {page} bytes", config.pages)?;
+    play_all(rt, chip, &waking(&config.clock, drive))?;
+    play_all(rt, chip, &bursts(&config.clock, page))?;
+    play_all(rt, chip, &settings(&config.clock, drive))?;
     coverage(rt, chip)?;
-    play_all(rt, chip, &losing(&kind.clock))?;
+    play_all(rt, chip, &losing(&config.clock))?;
     let state = chip.state();
     println!(rt; "  {} frames, {} low clocks", state.frames, state.clocks)
 }

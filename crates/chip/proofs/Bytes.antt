@@ -23,10 +23,10 @@ unwritten place d m (suc i) a old miss =
     skipped (eqb (place i) a) (masked m i) _ _ (λ hit bare. miss i (omega arith) bare (eqb-true _ _ hit))
     ∙ unwritten place d m i a old (λ j below. miss j (omega arith))
 
-unstored : (m : Meaning) (f : Sent) (a old : ℕ) → (Reaches m f a → ⊥) → stored m.kind m.state f a old ≡ old
+unstored : (m : Meaning) (f : Sent) (a old : ℕ) → (Reaches m f a → ⊥) → stored m.config m.state f a old ≡ old
 unstored m (read b s n) a old miss = refl
 unstored m (write b s d k) a old miss =
-    unwritten (address m.kind m.state b s) d k (length d) a old (λ i below bare hit. miss (i, below, bare, hit))
+    unwritten (address m.config m.state b s) d k (length d) a old (λ i below bare hit. miss (i, below, bare, hit))
 unstored m (register_read k) a old miss = refl
 unstored m (register_write k v) a old miss = refl
 unstored m global_reset a old miss = refl
@@ -36,14 +36,14 @@ held_by : (m n : Meaning) (f : Sent) (a : ℕ) → wakes f ≡ false → Safe m 
 held_by m n f a never before after =
     and_from _ _ (ap not never) (and_from _ _ after.strobe (and_from _ _ before.covered after.covered))
 
-module _ (m n : Meaning) (a : ℕ) (in_it : a < size m.kind) (before : Safe m a) (after : Safe n a) where
+module _ (m n : Meaning) (a : ℕ) (in_it : a < size m.config) (before : Safe m a) (after : Safe n a) where
   taken_spares : (f : Sent) (free : FreeByFrame) (old new : List ℕ) (r : Result Reply (Fault ℕ)) → wakes f ≡ false → (Reaches m f a → ⊥) → Taken m f free old r n new → n.byte a ≡ m.byte a
   taken_spares f free old new r never miss t =
       t.bytes a in_it
       ∙ cond-true _ _ _ (held_by m n f a never before after)
       ∙ unstored m f a (m.byte a) miss
 
-judged_spares : (o : Option Refusal) (m n : Meaning) (a : ℕ) (f : Sent) (old new : List ℕ) (r : Result Reply (Fault ℕ)) → a < size m.kind → Safe m a → Safe n a → ((o ≡ None) × (wakes f ≡ true) → ⊥) → ((o ≡ None) × Reaches m f a → ⊥) → Judged o m f old r n new → n.byte a ≡ m.byte a
+judged_spares : (o : Option Refusal) (m n : Meaning) (a : ℕ) (f : Sent) (old new : List ℕ) (r : Result Reply (Fault ℕ)) → a < size m.config → Safe m a → Safe n a → ((o ≡ None) × (wakes f ≡ true) → ⊥) → ((o ≡ None) × Reaches m f a → ⊥) → Judged o m f old r n new → n.byte a ≡ m.byte a
 judged_spares (Some e) m n a f old new r in_it before after never miss j = ap (λ x. x.byte a) j.1
 judged_spares None m n a f old new r in_it before after never miss (free, t) =
     taken_spares m n a in_it before after f free old new r (false_from_ne_true (wakes f) (λ w. never (refl, w))) (λ hit. miss (refl, hit)) t
@@ -52,7 +52,7 @@ reset_spares : (o : Option Refusal) (m n : Meaning) (a : ℕ) (r : Result (Unit 
 reset_spares (Some e) m n a r never j = ap (λ x. x.byte a) j.1
 reset_spares None m n a r never j = absurd (never refl)
 
-pub spared : (m n : Meaning) (e : Event) (a : ℕ) → Does m e n → a < size m.kind → Spares a m e n → n.byte a ≡ m.byte a
+pub spared : (m n : Meaning) (e : Event) (a : ℕ) → Does m e n → a < size m.config → Spares a m e n → n.byte a ≡ m.byte a
 spared m n (sending gap f old r new) a d in_it s =
     judged_spares _ m n a f old new r in_it s.before s.after s.no_wake s.no_write d.judged
 spared m n (resetting pulse r) a d in_it s = reset_spares _ m n a r s.no_restart d.judged
@@ -60,5 +60,5 @@ spared m n (resetting pulse r) a d in_it s = reset_spares _ m n a r s.no_restart
 pub changed_by_writes_only : ChangedByWritesOnly
 changed_by_writes_only m n [] a still in_it t = refl
 changed_by_writes_only m n (s ∷ rest) a (onward d r) in_it (one, t) =
-    let still_in : a < size s.after.kind = subst (λ k. a < size k) (sym (part_of m s.after s.event d).kind) in_it in
+    let still_in : a < size s.after.config = subst (λ k. a < size k) (sym (part_of m s.after s.event d).config) in_it in
     changed_by_writes_only s.after n rest a r still_in t ∙ spared m s.after s.event a d in_it one

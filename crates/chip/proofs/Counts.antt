@@ -3,46 +3,46 @@ use Rattle.std.proofs.Common.{◌≡◌, ℕ, ◌+◌, ◌^◌, ◌<◌, true, f
 use Rattle.std.proofs.lemmas.Bool.{false_from_ne_true}
 use Rattle.fault.specs.declared.Fault.{Fault}
 use Rattle.fault.specs.declared.Refusal.{Refusal}
-use Rattle.frame.specs.Low.{held}
+use Rattle.frame.specs.Low.{saturated}
 use Rattle.chip.specs.Frames.{Sent, read, write, register_read, register_write, global_reset, wakes, FreeByFrame, after, Judged}
 use Rattle.chip.specs.Meaning.{Meaning}
 use Rattle.chip.specs.Resets.{ResetJudged}
 use Rattle.chip.specs.Runs.{Event, sending, resetting, Does, Wake, still, onward, unless_refused, frames_in, clocks_in, CountsFit, Risen, CountsRiseByWhatWasSent}
-use Rattle.chip.specs.declared.parts.Kind.{Kind}
+use Rattle.chip.specs.declared.parts.Config.{Config}
 use Rattle.chip.specs.declared.parts.Reply.{Reply}
 use Rattle.chip.specs.declared.parts.State.{State}
 
 -- ---- a count that is held
 
-held_none : (x y : ℕ) → y ≡ x → y < 2 ^ 64 → y ≡ held (x + 0)
+held_none : (x y : ℕ) → y ≡ x → y < 2 ^ 64 → y ≡ saturated (x + 0)
 held_none x y same fits = omega arith
 
-held_fits : (x y : ℕ) → x ≡ held y → x < 2 ^ 64
+held_fits : (x y : ℕ) → x ≡ saturated y → x < 2 ^ 64
 held_fits x y e = omega arith
 
-held_twice : (x y z a b : ℕ) → y ≡ held (x + a) → z ≡ held (y + b) → z ≡ held (x + (a + b))
+held_twice : (x y z a b : ℕ) → y ≡ saturated (x + a) → z ≡ saturated (y + b) → z ≡ saturated (x + (a + b))
 held_twice x y z a b p q = omega arith
 
 -- ---- one event
 
-after_frames : (k : Kind) (s : State) (f : Sent) (free : FreeByFrame) → wakes f ≡ false → (after k s f free).frames ≡ held (s.frames + 1)
+after_frames : (k : Config) (s : State) (f : Sent) (free : FreeByFrame) → wakes f ≡ false → (after k s f free).frames ≡ saturated (s.frames + 1)
 after_frames k s (read b a n) free never = refl
 after_frames k s (write b a d m) free never = refl
 after_frames k s (register_read n) free never = refl
 after_frames k s (register_write n v) free never = refl
 after_frames k s global_reset free never = cc
 
-after_clocks : (k : Kind) (s : State) (f : Sent) (free : FreeByFrame) → wakes f ≡ false → (after k s f free).clocks ≡ held (s.clocks + (after k s f free).low)
+after_clocks : (k : Config) (s : State) (f : Sent) (free : FreeByFrame) → wakes f ≡ false → (after k s f free).clocks ≡ saturated (s.clocks + (after k s f free).latest_low)
 after_clocks k s (read b a n) free never = refl
 after_clocks k s (write b a d m) free never = refl
 after_clocks k s (register_read n) free never = refl
 after_clocks k s (register_write n v) free never = refl
 after_clocks k s global_reset free never = cc
 
-rises : (m n : Meaning) (s : State) → n.state ≡ s → s.frames ≡ held (m.state.frames + 1) → s.clocks ≡ held (m.state.clocks + s.low) → Risen m 1 n.state.low n
+rises : (m n : Meaning) (s : State) → n.state ≡ s → s.frames ≡ saturated (m.state.frames + 1) → s.clocks ≡ saturated (m.state.clocks + s.latest_low) → Risen m 1 n.state.latest_low n
 rises m n s is frames clocks = record {
   frames = ap (λ x. x.frames) is ∙ frames;
-  clocks = subst (λ x. x.clocks ≡ held (m.state.clocks + x.low)) (sym is) clocks;
+  clocks = subst (λ x. x.clocks ≡ saturated (m.state.clocks + x.latest_low)) (sym is) clocks;
 }
 
 -- counts that stay are in 64 bits
@@ -57,11 +57,11 @@ stays m n fit frames clocks = record { frames = held_none _ _ frames (fit.0 fram
 stays_whole : (m n : Meaning) → FitsStill m n → n ≡ m → Risen m 0 0 n
 stays_whole m n fit is = stays m n fit (ap (λ x. x.state.frames) is) (ap (λ x. x.state.clocks) is)
 
-judged_rises : (o : Option Refusal) (m n : Meaning) (f : Sent) (old new : List ℕ) (r : Result Reply (Fault ℕ)) → FitsStill m n → ((o ≡ None) × (wakes f ≡ true) → ⊥) → Judged o m f old r n new → Risen m (unless_refused o 1) (unless_refused o n.state.low) n
+judged_rises : (o : Option Refusal) (m n : Meaning) (f : Sent) (old new : List ℕ) (r : Result Reply (Fault ℕ)) → FitsStill m n → ((o ≡ None) × (wakes f ≡ true) → ⊥) → Judged o m f old r n new → Risen m (unless_refused o 1) (unless_refused o n.state.latest_low) n
 judged_rises (Some e) m n f old new r fit never j = stays_whole m n fit j.1
 judged_rises None m n f old new r fit never (free, t) =
     let still : wakes f ≡ false = false_from_ne_true (wakes f) (λ w. never (refl, w)) in
-    rises m n _ t.state (after_frames m.kind m.state f free still) (after_clocks m.kind m.state f free still)
+    rises m n _ t.state (after_frames m.config m.state f free still) (after_clocks m.config m.state f free still)
 
 reset_rises : (o : Option Refusal) (m n : Meaning) (r : Result (Unit {0}) (Fault ℕ)) → FitsStill m n → ResetJudged o m r n → Risen m 0 0 n
 reset_rises (Some e) m n r fit j = stays_whole m n fit j.1

@@ -1,42 +1,42 @@
 -- What one event does, by whether it is refused, is taken or wakes the chip. Assumes nothing.
 use Rattle.std.proofs.Common.{◌≡◌, ℕ, ◌≤◌, Bool, true, false, cond, List, [], ◌∷◌, ◌++◌, Some, None, Ok, Err, Option, Result, sym, refl, ap, ◌∙◌, arith}
 use Rattle.std.proofs.lemmas.Option.{same_Some}
-use Rattle.fault.specs.Refusals.{account, fault_at}
+use Rattle.fault.specs.Refusals.{details, fault_at}
 use Rattle.fault.specs.declared.Fault.{Fault}
 use Rattle.fault.specs.declared.Refusal.{Refusal}
 use Rattle.fault.specs.declared.Refusal.TheVariants.{NoStrobe}
-use Rattle.chip.specs.Frames.{Sent, read, write, register_read, register_write, global_reset, place, after, FreeByFrame, SamePart, Taken, Judged}
+use Rattle.chip.specs.Frames.{Sent, read, write, register_read, register_write, global_reset, place, after, FreeByFrame, SameConfig, Taken, Judged}
 use Rattle.chip.specs.Meaning.{Meaning}
 use Rattle.chip.specs.Resets.{ResetJudged}
-use Rattle.chip.specs.Runs.{Event, sending, resetting, Does, Restart, Step, Runs, still, onward, Each, RefusedLeaves, RefusedLeavesEverything, err, StrobeReturnsByResetAlone, PartNeverChanges}
-use Rattle.chip.specs.declared.parts.Kind.{Kind}
+use Rattle.chip.specs.Runs.{Event, sending, resetting, Does, Restart, Step, Runs, still, onward, Each, RefusedLeaves, RefusedLeavesEverything, err, StrobeReturnsByResetAlone, ConfigNeverChanges}
+use Rattle.chip.specs.declared.parts.Config.{Config}
 use Rattle.chip.specs.declared.parts.Reply.{Reply}
 use Rattle.chip.specs.declared.parts.State.{State}
 use Rattle.chip.proofs.Tests.{refused_range, reset_refused_range}
 
 -- ---- what never changes
 
-same_part : {m n : Meaning} → n ≡ m → SamePart m n
-same_part e = record { kind = ap (λ x. x.kind) e; refreshes = ap (λ x. x.refreshes) e }
+same_part : {m n : Meaning} → n ≡ m → SameConfig m n
+same_part e = record { config = ap (λ x. x.config) e; refreshes = ap (λ x. x.refreshes) e }
 
-judged_part : (o : Option Refusal) (m n : Meaning) (f : Sent) (old new : List ℕ) (r : Result Reply (Fault ℕ)) → Judged o m f old r n new → SamePart m n
+judged_part : (o : Option Refusal) (m n : Meaning) (f : Sent) (old new : List ℕ) (r : Result Reply (Fault ℕ)) → Judged o m f old r n new → SameConfig m n
 judged_part (Some e) m n f old new r j = same_part j.1
 judged_part None m n f old new r j = j.1.part
 
-reset_part : (o : Option Refusal) (m n : Meaning) (r : Result (Unit {0}) (Fault ℕ)) → ResetJudged o m r n → SamePart m n
+reset_part : (o : Option Refusal) (m n : Meaning) (r : Result (Unit {0}) (Fault ℕ)) → ResetJudged o m r n → SameConfig m n
 reset_part (Some e) m n r j = same_part j.1
 reset_part None m n r j = j.1.1.part
 
-pub part_of : (m n : Meaning) (e : Event) → Does m e n → SamePart m n
+pub part_of : (m n : Meaning) (e : Event) → Does m e n → SameConfig m n
 part_of m n (sending gap f old r new) d = judged_part _ m n f old new r d.judged
 part_of m n (resetting pulse r) d = reset_part _ m n r d.judged
 
-pub part_never_changes : PartNeverChanges
-part_never_changes m n [] still = record { kind = refl; refreshes = refl }
-part_never_changes m n (s ∷ rest) (onward d r) =
+pub config_never_changes : ConfigNeverChanges
+config_never_changes m n [] still = record { config = refl; refreshes = refl }
+config_never_changes m n (s ∷ rest) (onward d r) =
     let one = part_of m s.after s.event d in
-    let more = part_never_changes s.after n rest r in
-    record { kind = more.kind ∙ one.kind; refreshes = more.refreshes ∙ one.refreshes }
+    let more = config_never_changes s.after n rest r in
+    record { config = more.config ∙ one.config; refreshes = more.refreshes ∙ one.refreshes }
 
 -- ---- a run, and then another
 
@@ -66,12 +66,12 @@ judged_test : (o : Option Refusal) (m n : Meaning) (f : Sent) (old new : List �
 judged_test (Some e) m n f old new r x is j = (j.1, j.2)
 judged_test None m n f old new r x is j = cc
 
-judged_answer : (o : Option Refusal) (m n : Meaning) (f : Sent) (old new : List ℕ) (r : Result Reply (Fault ℕ)) (x : Fault ℕ) → err r ≡ Some x → (account x.refusal).number ≤ 18 → Judged o m f old r n new → (n ≡ m) × (new ≡ old)
+judged_answer : (o : Option Refusal) (m n : Meaning) (f : Sent) (old new : List ℕ) (r : Result Reply (Fault ℕ)) (x : Fault ℕ) → err r ≡ Some x → (details x.refusal).number ≤ 18 → Judged o m f old r n new → (n ≡ m) × (new ≡ old)
 judged_answer (Some e) m n f old new r x is low j = (j.1, j.2)
 judged_answer None m n f old new (Ok y) x is low j = cc
 judged_answer None m n f old new (Err y) x is low j =
     let same : y.refusal ≡ x.refusal = ap (λ z. z.refusal) (same_Some y x is) in
-    let nineteen : (account x.refusal).number ≡ 19 = ap (λ z. (account z).number) (sym same ∙ only_19 f y j.1) in
+    let nineteen : (details x.refusal).number ≡ 19 = ap (λ z. (details z).number) (sym same ∙ only_19 f y j.1) in
     absurd (omega arith)
 
 reset_test : (o : Option Refusal) (m n : Meaning) (r : Result (Unit {0}) (Fault ℕ)) (x : Refusal) → o ≡ Some x → ResetJudged o m r n → n ≡ m
@@ -84,12 +84,12 @@ reset_answer None m n r x is j = let e : None ≡ Some x = ap err (sym j.0) ∙ 
 
 pub refused_leaves : (m n : Meaning) (e : Event) → Does m e n → RefusedLeaves m e n
 refused_leaves m n (sending gap f old r new) d = record {
-  answer = λ x is. (judged_fault _ m n f old new r x is d.judged, (refused_range m.kind m.state gap f x is).0, (refused_range m.kind m.state gap f x is).1);
+  answer = λ x is. (judged_fault _ m n f old new r x is d.judged, (refused_range m.config m.state gap f x is).0, (refused_range m.config m.state gap f x is).1);
   by_test = λ x is. judged_test _ m n f old new r x is d.judged;
   by_answer = λ x is low. judged_answer _ m n f old new r x is low d.judged;
 }
 refused_leaves m n (resetting pulse r) d = record {
-  answer = λ x is. (reset_fault _ m n r x is d.judged, (reset_refused_range m.kind m.state pulse x is).0, (reset_refused_range m.kind m.state pulse x is).1);
+  answer = λ x is. (reset_fault _ m n r x is d.judged, (reset_refused_range m.config m.state pulse x is).0, (reset_refused_range m.config m.state pulse x is).1);
   by_test = λ x is. (reset_test _ m n r x is d.judged, tt);
   by_answer = λ x is low. (reset_answer _ m n r x is d.judged, tt);
 }
@@ -104,7 +104,7 @@ refused_leaves_everything = each RefusedLeaves refused_leaves
 
 -- ---- the strobe returns by a reset alone
 
-after_strobe : (k : Kind) (s : State) (f : Sent) (free : FreeByFrame) → (after k s f free).strobe ≡ free.strobe
+after_strobe : (k : Config) (s : State) (f : Sent) (free : FreeByFrame) → (after k s f free).strobe ≡ free.strobe
 after_strobe k s (read b a n) free = refl
 after_strobe k s (write b a d m) free = refl
 after_strobe k s (register_read n) free = refl
@@ -118,7 +118,7 @@ not_back b false back gone = refl
 judged_strobe : (o : Option Refusal) (m n : Meaning) (f : Sent) (old new : List ℕ) (r : Result Reply (Fault ℕ)) → Judged o m f old r n new → m.state.strobe ≡ false → n.state.strobe ≡ false
 judged_strobe (Some e) m n f old new r j gone = ap (λ x. x.state.strobe) j.1 ∙ gone
 judged_strobe None m n f old new r (free, t) gone =
-    ap (λ x. x.strobe) t.state ∙ after_strobe m.kind m.state f free ∙ not_back _ _ t.allowed.strobe gone
+    ap (λ x. x.strobe) t.state ∙ after_strobe m.config m.state f free ∙ not_back _ _ t.allowed.strobe gone
 
 reset_strobe : (o : Option Refusal) (m n : Meaning) (r : Result (Unit {0}) (Fault ℕ)) → (o ≡ None → ⊥) → ResetJudged o m r n → m.state.strobe ≡ false → n.state.strobe ≡ false
 reset_strobe (Some e) m n r never j gone = ap (λ x. x.state.strobe) j.1 ∙ gone

@@ -1,16 +1,16 @@
 -- What follows from the tests of a frame: which refusals they give, and what holds where they give none. Assumes nothing.
 use Rattle.std.proofs.Common.{◌≡◌, ℕ, ◌≤◌, Bool, true, false, List, [], ◌∷◌, Some, None, refl, subst, arith}
 use Rattle.std.proofs.lemmas.Option.{same_Some}
-use Rattle.fault.specs.Refusals.{account}
+use Rattle.fault.specs.Refusals.{details}
 use Rattle.fault.specs.declared.Refusal.{Refusal}
 use Rattle.chip.specs.Frames.{first, Sent, bad_start, bad_register, refused}
 use Rattle.chip.specs.Resets.{reset_refused}
-use Rattle.chip.specs.declared.parts.Kind.{Kind}
+use Rattle.chip.specs.declared.parts.Config.{Config}
 use Rattle.chip.specs.declared.parts.State.{State}
 
 -- each refusal of a list is one of 13 to 18
 abbrev InRange : Refusal → Type 0
-InRange x = (13 ≤ (account x).number) × ((account x).number ≤ 18)
+InRange x = (13 ≤ (details x).number) × ((details x).number ≤ 18)
 
 abbrev Listed : List (Bool × Refusal) → Type 0
 Listed [] = Unit {0}
@@ -22,10 +22,10 @@ first_listed [] x all e = cc
 first_listed ((true, r) ∷ rest) x all e = subst InRange (same_Some r x e) all.0
 first_listed ((false, r) ∷ rest) x all e = first_listed rest x all.1 e
 
-pub refused_range : (k : Kind) (s : State) (gap : ℕ) (f : Sent) (x : Refusal) → refused k s gap f ≡ Some x → (13 ≤ (account x).number) × ((account x).number ≤ 18)
+pub refused_range : (k : Config) (s : State) (gap : ℕ) (f : Sent) (x : Refusal) → refused k s gap f ≡ Some x → (13 ≤ (details x).number) × ((details x).number ≤ 18)
 refused_range k s gap f x e = first_listed _ x ((omega arith, omega arith), ((omega arith, omega arith), ((omega arith, omega arith), ((omega arith, omega arith), ((omega arith, omega arith), ((omega arith, omega arith), tt)))))) e
 
-pub reset_refused_range : (k : Kind) (s : State) (pulse : ℕ) (x : Refusal) → reset_refused k s pulse ≡ Some x → (13 ≤ (account x).number) × ((account x).number ≤ 18)
+pub reset_refused_range : (k : Config) (s : State) (pulse : ℕ) (x : Refusal) → reset_refused k s pulse ≡ Some x → (13 ≤ (details x).number) × ((details x).number ≤ 18)
 reset_refused_range k s pulse x e = first_listed _ x ((omega arith, omega arith), ((omega arith, omega arith), tt)) e
 
 -- where no test holds, the first does not, and none of the others does
@@ -34,9 +34,9 @@ unfolding first
 none_first true r rest e = cc
 none_first false r rest e = (refl, e)
 
-pub good_start : (k : Kind) (s : State) (gap : ℕ) (f : Sent) → refused k s gap f ≡ None → bad_start k f ≡ false
+pub good_start : (k : Config) (s : State) (gap : ℕ) (f : Sent) → refused k s gap f ≡ None → bad_start k f ≡ false
 good_start k s gap f e = (none_first _ _ _ (none_first _ _ _ (none_first _ _ _ e).1).1).0
 
-pub good_register : (k : Kind) (s : State) (gap : ℕ) (f : Sent) → refused k s gap f ≡ None → bad_register f ≡ false
+pub good_register : (k : Config) (s : State) (gap : ℕ) (f : Sent) → refused k s gap f ≡ None → bad_register f ≡ false
 good_register k s gap f e =
     (none_first _ _ _ (none_first _ _ _ (none_first _ _ _ (none_first _ _ _ (none_first _ _ _ (none_first _ _ _ e).1).1).1).1).1).0

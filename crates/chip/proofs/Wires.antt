@@ -5,8 +5,8 @@ use Rattle.std.proofs.lemmas.Bool.Decides.{nat_tests}
 use Rattle.std.proofs.lemmas.Option.{cond_some, same_Some}
 use Rattle.fault.specs.declared.Fault.{Fault}
 use Rattle.fault.specs.declared.Refusal.{Refusal}
-use Rattle.frame.specs.Bursts.{at}
-use Rattle.frame.specs.Opening.{last_address, opening, opened, GivesBack}
+use Rattle.frame.specs.Bursts.{burst_address}
+use Rattle.frame.specs.OpeningBytes.{last_address, opening_bytes, from_opening_bytes, GivesBack}
 use Rattle.frame.specs.declared.burst.Block.TheVariants.{Bytes16}
 use Rattle.frame.specs.declared.burst.Burst.{Burst}
 use Rattle.frame.specs.declared.burst.Burst.TheVariants.{Linear, Wrapped, Hybrid}
@@ -15,7 +15,7 @@ use Rattle.frame.specs.declared.command.Command.TheVariants.{Read, LinearRead, W
 use Rattle.register.specs.Registers.{on_wire, readable, accepts}
 use Rattle.chip.specs.Frames.{Sent, read, write, register_read, register_write, global_reset, bad_start, refused, written, holds, Judged, Sends}
 use Rattle.chip.specs.Meaning.{Meaning, Lawful, size, strobe_at}
-use Rattle.chip.specs.Wire.{linear, command_of_frame, address_of_frame, opening_of_frame, Follows, follows_in_frame, Decodes, TakenHasOpening, DoesTheSame, SameOnTheWire}
+use Rattle.chip.specs.Wire.{linear, command_of_frame, address_of_frame, frame_opening_bytes, Follows, follows_in_frame, Decodes, TakenHasOpening, DoesTheSame, SameOnTheWire}
 use Rattle.chip.specs.declared.parts.Reply.{Reply}
 use Rattle.chip.proofs.Tests.{good_start, good_register}
 
@@ -25,21 +25,21 @@ cond_none : {A : Type 0} (b : Bool) (x : A) → None ≡ cond b (Some x) None �
 cond_none true x e = cc
 cond_none false x e = refl
 
-pub decodes : GivesBack → (r : Option (List ℕ)) (c : Command) (a : ℕ) → r ≡ opening c a → Decodes r c a
+pub decodes : GivesBack → (r : Option (List ℕ)) (c : Command) (a : ℕ) → r ≡ opening_bytes c a → Decodes r c a
 decodes back None c a is = leb-false a (last_address c) (cond_none _ _ is)
 decodes back (Some bytes) c a is =
     let given = back c a (leb-true a (last_address c) (cond_some _ _ _ (sym is)).0) in
-    subst (λ x. opened x ≡ Some (c, a)) (same_Some _ _ (sym given.1 ∙ sym is)) given.2
+    subst (λ x. from_opening_bytes x ≡ Some (c, a)) (same_Some _ _ (sym given.1 ∙ sym is)) given.2
 
 -- ---- a frame that is taken has opening bytes
 
-carries : (c : Command) (a : ℕ) → a ≤ last_address c → (bytes : List ℕ) × (opening c a ≡ Some bytes)
+carries : (c : Command) (a : ℕ) → a ≤ last_address c → (bytes : List ℕ) × (opening_bytes c a ≡ Some bytes)
 carries c a fits = (_, cond-true _ _ _ (le-leb a (last_address c) fits))
 
 -- a start that is taken has 24 bits at most
-memory_fits : (m : Meaning) (gap a : ℕ) (f : Sent) → bad_start m.kind f ≡ (eqb (a % 2) 1 || leb (size m.kind) a) → Lawful m → refused m.kind m.state gap f ≡ None → a ≤ 0xFFFFFF
+memory_fits : (m : Meaning) (gap a : ℕ) (f : Sent) → bad_start m.config f ≡ (eqb (a % 2) 1 || leb (size m.config) a) → Lawful m → refused m.config m.state gap f ≡ None → a ≤ 0xFFFFFF
 memory_fits m gap a f test law e =
-    let start = sym test ∙ good_start m.kind m.state gap f e in
+    let start = sym test ∙ good_start m.config m.state gap f e in
     let below = leb-false _ _ (or_parts (eqb (a % 2) 1) _ start).1 in
     omega (arith, law.most)
 
@@ -56,8 +56,8 @@ taken_has_opening m gap (read (Hybrid b) a n) law e = carries Read a (memory_fit
 taken_has_opening m gap (write Linear a d k) law e = carries LinearWrite a (memory_fits m gap a (write Linear a d k) refl law e)
 taken_has_opening m gap (write (Wrapped b) a d k) law e = carries Write a (memory_fits m gap a (write (Wrapped b) a d k) refl law e)
 taken_has_opening m gap (write (Hybrid b) a d k) law e = carries Write a (memory_fits m gap a (write (Hybrid b) a d k) refl law e)
-taken_has_opening m gap (register_read k) law e = carries RegisterRead k (readable_fits k (good_register m.kind m.state gap (register_read k) e))
-taken_has_opening m gap (register_write k v) law e = carries RegisterWrite k (writable_fits k v (good_register m.kind m.state gap (register_write k v) e))
+taken_has_opening m gap (register_read k) law e = carries RegisterRead k (readable_fits k (good_register m.config m.state gap (register_read k) e))
+taken_has_opening m gap (register_write k v) law e = carries RegisterWrite k (writable_fits k v (good_register m.config m.state gap (register_write k v) e))
 taken_has_opening m gap global_reset law e = carries GlobalReset 0 (omega arith)
 
 -- ---- the burst that a frame names
@@ -84,7 +84,7 @@ module _ (b c : Burst) (a : ℕ) (wire : (mr8 : ℕ) → on_wire b mr8 ≡ on_wi
       state = t.state;
       bytes = t.bytes;
       answer = t.answer;
-      buffer = subst (λ w. MatchBool (strobe_at n a) ((length new ≡ length old) × ((i : ℕ) → i < k → get_or new i 0 ≡ n.byte (at m.kind.make w a i))) (new ≡ old)) (wire m.state.mr8) t.buffer;
+      buffer = subst (λ w. MatchBool (strobe_at n a) ((length new ≡ length old) × ((i : ℕ) → i < k → get_or new i 0 ≡ n.byte (burst_address m.config.make w a i))) (new ≡ old)) (wire m.state.mr8) t.buffer;
     },
   )
 
@@ -98,7 +98,7 @@ module _ (b c : Burst) (a : ℕ) (wire : (mr8 : ℕ) → on_wire b mr8 ≡ on_wi
       state = t.state;
       bytes = λ x in_it.
           t.bytes x in_it
-          ∙ ap (λ w. cond (holds m n (write c a d k) x) (written (at m.kind.make w a) d k (length d) x (m.byte x)) (free.byte x)) (wire m.state.mr8);
+          ∙ ap (λ w. cond (holds m n (write c a d k) x) (written (burst_address m.config.make w a) d k (length d) x (m.byte x)) (free.byte x)) (wire m.state.mr8);
       answer = t.answer;
       buffer = t.buffer;
     },
@@ -153,10 +153,10 @@ comes_in (register_read k) = itself (register_read k)
 comes_in (register_write k v) = itself (register_write k v)
 comes_in global_reset = itself global_reset
 
-same_bytes : GivesBack → (f g : Sent) (bytes : List ℕ) → opening_of_frame f ≡ Some bytes → opening_of_frame g ≡ Some bytes → ◌≡◌ {A = Command × ℕ} (command_of_frame f, address_of_frame f) (command_of_frame g, address_of_frame g)
+same_bytes : GivesBack → (f g : Sent) (bytes : List ℕ) → frame_opening_bytes f ≡ Some bytes → frame_opening_bytes g ≡ Some bytes → ◌≡◌ {A = Command × ℕ} (command_of_frame f, address_of_frame f) (command_of_frame g, address_of_frame g)
 same_bytes back f g bytes p q = same_Some _ _ (sym (decodes back (Some bytes) _ _ (sym p)) ∙ decodes back (Some bytes) _ _ (sym q))
 
-same_frames : GivesBack → (f g : Sent) (bytes : List ℕ) → opening_of_frame f ≡ Some bytes → opening_of_frame g ≡ Some bytes → follows_in_frame f ≡ follows_in_frame g → DoesTheSame f g
+same_frames : GivesBack → (f g : Sent) (bytes : List ℕ) → frame_opening_bytes f ≡ Some bytes → frame_opening_bytes g ≡ Some bytes → follows_in_frame f ≡ follows_in_frame g → DoesTheSame f g
 unfolding on_the_wire
 same_frames back f g bytes p q follows m n gap old new r s =
     let opens = same_bytes back f g bytes p q in

@@ -6,8 +6,8 @@ use Rattle.fault.specs.Refusals.{fault_at}
 use Rattle.fault.specs.declared.Fault.{Fault}
 use Rattle.fault.specs.declared.Refusal.{Refusal}
 use Rattle.fault.specs.declared.Refusal.TheVariants.{WrongPhase, TooSoon, BadStart, BadCount, TooLong, BadRegister, NoStrobe}
-use Rattle.frame.specs.Bursts.{at}
-use Rattle.frame.specs.Low.{low_clocks, held}
+use Rattle.frame.specs.Bursts.{burst_address}
+use Rattle.frame.specs.Low.{low_clocks, saturated}
 use Rattle.frame.specs.declared.burst.Burst.{Burst}
 use Rattle.frame.specs.declared.low.Transfer.{Transfer}
 use Rattle.frame.specs.declared.low.Transfer.TheVariants as transfer
@@ -20,7 +20,7 @@ use Rattle.register.specs.declared.fields.LatencyType.TheVariants.{Variable, Fix
 use Rattle.chip.specs.Meaning.{Meaning, size, read_latency, write_latency, refreshed, strobe_at, register_strobe}
 use Rattle.chip.specs.declared.parts.Frame.{Frame}
 use Rattle.chip.specs.declared.parts.Frame.TheVariants as frame
-use Rattle.chip.specs.declared.parts.Kind.{Kind}
+use Rattle.chip.specs.declared.parts.Config.{Config}
 use Rattle.chip.specs.declared.parts.Phase.{Phase}
 use Rattle.chip.specs.declared.parts.Phase.TheVariants.{Unwoken, Awake}
 use Rattle.chip.specs.declared.parts.Reply.{Reply}
@@ -79,17 +79,17 @@ takes Unwoken waking = waking
 takes Awake waking = not waking
 
 -- the wait before a frame that a phase adds
-abbrev pub power_up : Kind → Phase → ℕ
+abbrev pub power_up : Config → Phase → ℕ
 power_up k Unwoken = k.clock.tpu
 power_up k Awake = 0
 
 -- the least gap before a frame: tCPH, tRC less the latest low clocks, and the waits that are due
-abbrev pub least_gap : Kind → State → ℕ
+abbrev pub least_gap : Config → State → ℕ
 least_gap k s =
-    max (max k.clock.tcph (k.clock.trc - s.low)) (max (cond s.settling k.clock.trst 0) (power_up k s.phase))
+    max (max k.clock.tcph (k.clock.trc - s.latest_low)) (max (cond s.trst_due k.clock.trst 0) (power_up k s.phase))
 
 -- an odd start, or one at or past the size
-abbrev pub bad_start : Kind → Sent → Bool
+abbrev pub bad_start : Config → Sent → Bool
 bad_start k (read b a n) = a % 2 == 1 || nat_le (size k) a
 bad_start k (write b a d m) = a % 2 == 1 || nat_le (size k) a
 bad_start k (register_read r) = false
@@ -105,7 +105,7 @@ bad_count (register_write r v) = false
 bad_count global_reset = false
 
 -- the low clocks exceed tCEM, a memory read counted with 2 LC in either latency type
-abbrev pub too_long : Kind → State → Sent → Bool
+abbrev pub too_long : Config → State → Sent → Bool
 too_long k s f = nat_lt k.clock.tcem (low_for s f (2 * clocks (read_latency s)))
 
 abbrev pub bad_register : Sent → Bool
@@ -121,7 +121,7 @@ first [] = None
 first ((test, refusal) ∷ rest) = cond test (Some refusal) (first rest)
 
 -- 14 to 18, in this order
-abbrev pub tests : Kind → State → ℕ → Sent → List (Bool × Refusal)
+abbrev pub tests : Config → State → ℕ → Sent → List (Bool × Refusal)
 tests k s gap f =
     (nat_lt gap (least_gap k s), TooSoon)
     ∷ (bad_start k f, BadStart)
@@ -131,11 +131,11 @@ tests k s gap f =
     ∷ []
 
 -- what refuses a frame that the phase takes
-abbrev pub unfit : Kind → State → ℕ → Sent → Option Refusal
+abbrev pub unfit : Config → State → ℕ → Sent → Option Refusal
 unfit k s gap f = first (tests k s gap f)
 
 -- 13 to 18, in this order
-abbrev pub refused : Kind → State → ℕ → Sent → Option Refusal
+abbrev pub refused : Config → State → ℕ → Sent → Option Refusal
 refused k s gap f = first ((not (takes s.phase (wakes f)), WrongPhase) ∷ tests k s gap f)
 
 -- ---- what a frame that is taken leaves free
@@ -156,7 +156,7 @@ fixed Fixed = true
 pub record LatencyAllowed (s : State) (strobe : Bool) (l : ℕ) : Type 0 where
   pub least : clocks (read_latency s) ≤ l
   pub most : l ≤ 2 * clocks (read_latency s)
-  pub full : (fixed (mr0 s.mr0).kind || not strobe) ≡ true → l ≡ 2 * clocks (read_latency s)
+  pub full : (fixed (mr0 s.mr0).latency_type || not strobe) ≡ true → l ≡ 2 * clocks (read_latency s)
 
 -- the strobe and the latency that a frame may have
 pub record Allowed (s : State) (free : FreeByFrame) : Type 0 where
@@ -171,7 +171,7 @@ abbrev pub reset_value : Make → ℕ → ℕ
 reset_value m r = unwrap_or (after_reset m r) 0
 
 -- what a register holds
-abbrev pub register : Kind → State → ℕ → ℕ
+abbrev pub register : Config → State → ℕ → ℕ
 register k s r =
     cond (r == 0) s.mr0 (cond (r == 4) s.mr4 (cond (r == 8) s.mr8 (reset_value k.make r)))
 
@@ -183,8 +183,8 @@ with_register s r v = record {
   mr8 = cond (r == 8) v s.mr8;
   phase = s.phase;
   strobe = s.strobe;
-  settling = s.settling;
-  low = s.low;
+  trst_due = s.trst_due;
+  latest_low = s.latest_low;
   frames = s.frames;
   clocks = s.clocks;
 }
@@ -197,28 +197,28 @@ counted s low strobe = record {
   mr8 = s.mr8;
   phase = s.phase;
   strobe = strobe;
-  settling = false;
-  low = low;
-  frames = held (s.frames + 1);
-  clocks = held (s.clocks + low);
+  trst_due = false;
+  latest_low = low;
+  frames = saturated (s.frames + 1);
+  clocks = saturated (s.clocks + low);
 }
 
 -- a wake of so many low clocks: the registers are those of the table, the wait is due, and counting begins
-abbrev pub woken : Kind → ℕ → Bool → State
+abbrev pub woken : Config → ℕ → Bool → State
 woken k low strobe = record {
   mr0 = reset_value k.make 0;
   mr4 = reset_value k.make 4;
   mr8 = reset_value k.make 8;
   phase = Awake;
   strobe = strobe;
-  settling = true;
-  low = low;
+  trst_due = true;
+  latest_low = low;
   frames = 0;
   clocks = 0;
 }
 
 -- the state after a frame of so many low clocks
-abbrev pub ended : Kind → State → Sent → ℕ → Bool → State
+abbrev pub ended : Config → State → Sent → ℕ → Bool → State
 ended k s (read b a n) low strobe = counted s low strobe
 ended k s (write b a d m) low strobe = counted s low strobe
 ended k s (register_read r) low strobe = counted s low strobe
@@ -226,12 +226,12 @@ ended k s (register_write r v) low strobe = counted (with_register s r v) low st
 ended k s global_reset low strobe = woken k low strobe
 
 -- the state after a frame that is taken
-abbrev pub after : Kind → State → Sent → FreeByFrame → State
+abbrev pub after : Config → State → Sent → FreeByFrame → State
 after k s f free = ended k s f (low_for s f free.latency) free.strobe
 
 -- byte i of a burst, as it is on the wire
-abbrev pub address : Kind → State → Burst → ℕ → ℕ → ℕ
-address k s b a i = at k.make (on_wire b s.mr8) a i
+abbrev pub address : Config → State → Burst → ℕ → ℕ → ℕ
+address k s b a i = burst_address k.make (on_wire b s.mr8) a i
 
 -- what an address holds after the first n bytes of a write: the last unmasked byte that came to it, else what it held
 abbrev pub written : (ℕ → ℕ) → List ℕ → List ℕ → ℕ → ℕ → ℕ → ℕ
@@ -239,7 +239,7 @@ written place d m zero a old = old
 written place d m (suc i) a old = cond (place i == a && not (mask.masked m i)) (slice_index d i) (written place d m i a old)
 
 -- what an address holds after a frame over which it is held
-abbrev pub stored : Kind → State → Sent → ℕ → ℕ → ℕ
+abbrev pub stored : Config → State → Sent → ℕ → ℕ → ℕ
 stored k s (read b a n) x old = old
 stored k s (write b a d m) x old = written (address k s b a) d m (length d) x old
 stored k s (register_read r) x old = old
@@ -260,7 +260,7 @@ answered n (register_write r v) = true
 answered n global_reset = true
 
 -- the answer to a frame that is answered: a register, where one is read
-abbrev pub reply : Kind → State → Sent → Reply
+abbrev pub reply : Config → State → Sent → Reply
 reply k s (read b a n) = Done
 reply k s (write b a d m) = Done
 reply k s (register_read r) = Register (register k s r)
@@ -268,11 +268,11 @@ reply k s (register_write r v) = Done
 reply k s global_reset = Done
 
 -- what comes back, by whether the frame is answered
-abbrev pub answer_by : Kind → State → Bool → Sent → Result Reply (Fault ℕ)
+abbrev pub answer_by : Config → State → Bool → Sent → Result Reply (Fault ℕ)
 answer_by k s ok f = cond ok (Ok (reply k s f)) (Err (fault_at (NoStrobe 0) (place f)))
 
 -- the buffer: a read that is answered fills it with the bytes of its burst, as they are after the frame
-abbrev pub Filled : Kind → State → Bool → Sent → (ℕ → ℕ) → List ℕ → List ℕ → Type 0
+abbrev pub Filled : Config → State → Bool → Sent → (ℕ → ℕ) → List ℕ → List ℕ → Type 0
 Filled k s ok (read b a n) byte old new = MatchBool ok ((length new ≡ length old) × ((i : ℕ) → i < n → slice_index new i ≡ byte (address k s b a i))) (new ≡ old)
 Filled k s ok (write b a d m) byte old new = new ≡ old
 Filled k s ok (register_read r) byte old new = new ≡ old
@@ -280,18 +280,18 @@ Filled k s ok (register_write r v) byte old new = new ≡ old
 Filled k s ok global_reset byte old new = new ≡ old
 
 -- what never changes
-pub record SamePart (m n : Meaning) : Type 0 where
-  pub kind : n.kind ≡ m.kind
+pub record SameConfig (m n : Meaning) : Type 0 where
+  pub config : n.config ≡ m.config
   pub refreshes : n.refreshes ≡ m.refreshes
 
 -- what a frame that is taken does
 pub record Taken (m : Meaning) (f : Sent) (free : FreeByFrame) (old : List ℕ) (r : Result Reply (Fault ℕ)) (n : Meaning) (new : List ℕ) : Type 0 where
   pub allowed : Allowed m.state free
-  pub part : SamePart m n
-  pub state : n.state ≡ after m.kind m.state f free
-  pub bytes : (a : ℕ) → a < size m.kind → n.byte a ≡ cond (holds m n f a) (stored m.kind m.state f a (m.byte a)) (free.byte a)
-  pub answer : r ≡ answer_by m.kind m.state (answered n f) f
-  pub buffer : Filled m.kind m.state (answered n f) f n.byte old new
+  pub part : SameConfig m n
+  pub state : n.state ≡ after m.config m.state f free
+  pub bytes : (a : ℕ) → a < size m.config → n.byte a ≡ cond (holds m n f a) (stored m.config m.state f a (m.byte a)) (free.byte a)
+  pub answer : r ≡ answer_by m.config m.state (answered n f) f
+  pub buffer : Filled m.config m.state (answered n f) f n.byte old new
 
 -- a frame sent after a gap: refused with nothing changed, or taken
 abbrev pub Judged : Option Refusal → Meaning → Sent → List ℕ → Result Reply (Fault ℕ) → Meaning → List ℕ → Type 0
@@ -299,4 +299,4 @@ Judged (Some e) m f old r n new = (r ≡ Err (fault_at e (place f))) × (n ≡ m
 Judged None m f old r n new = (free : FreeByFrame) × Taken m f free old r n new
 
 pub record Sends (m : Meaning) (gap : ℕ) (f : Sent) (old : List ℕ) (r : Result Reply (Fault ℕ)) (n : Meaning) (new : List ℕ) : Type 0 where
-  pub judged : Judged (refused m.kind m.state gap f) m f old r n new
+  pub judged : Judged (refused m.config m.state gap f) m f old r n new

@@ -5,12 +5,12 @@ use Rattle.frame.specs.Pages.{page}
 use Rattle.register.specs.Registers.{mr0, mr4}
 use Rattle.register.specs.declared.fields.Coverage.{Coverage}
 use Rattle.register.specs.declared.fields.Coverage.TheVariants.{All}
-use Rattle.chip.specs.declared.parts.Kind.{Kind}
+use Rattle.chip.specs.declared.parts.Config.{Config}
 use Rattle.chip.specs.declared.parts.State.{State}
 
 pub record Meaning : Type 0 where
   -- make, pages and clock numbers
-  pub kind : Kind
+  pub config : Config
   -- the addresses that each coverage refreshes
   pub refreshes : Coverage → ℕ → Bool
   -- registers, phase, strobe, the wait that is due, the latest low clocks and the two counts
@@ -19,7 +19,7 @@ pub record Meaning : Type 0 where
   pub byte : ℕ → ℕ
 
 -- the size in bytes
-abbrev pub size : Kind → ℕ
+abbrev pub size : Config → ℕ
 size k = k.pages * page k.make
 
 abbrev pub largest_size : ℕ
@@ -50,7 +50,7 @@ register_strobe m = m.state.strobe
 -- nothing refreshes what is not there. What is true of its clock numbers is in their type; that registers are bytes and
 -- the counts have 64 bits is in the type of the state that it answers
 pub record Lawful (m : Meaning) : Type 0 where
-  pub some : 1 ≤ m.kind.pages
-  pub most : size m.kind ≤ largest_size
-  pub full : (a : ℕ) → a < size m.kind → m.refreshes All a ≡ true
-  pub inside : (c : Coverage) (a : ℕ) → m.refreshes c a ≡ true → a < size m.kind
+  pub some : 1 ≤ m.config.pages
+  pub most : size m.config ≤ largest_size
+  pub full : (a : ℕ) → a < size m.config → m.refreshes All a ≡ true
+  pub inside : (c : Coverage) (a : ℕ) → m.refreshes c a ≡ true → a < size m.config

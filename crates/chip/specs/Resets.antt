@@ -4,9 +4,9 @@ use Rattle.fault.specs.Refusals.{fault_at}
 use Rattle.fault.specs.declared.Fault.{Fault}
 use Rattle.fault.specs.declared.Refusal.{Refusal}
 use Rattle.fault.specs.declared.Refusal.TheVariants.{WrongPhase, TooSoon}
-use Rattle.chip.specs.Frames.{first, reset_value, SamePart}
+use Rattle.chip.specs.Frames.{first, reset_value, SameConfig}
 use Rattle.chip.specs.Meaning.{Meaning, size}
-use Rattle.chip.specs.declared.parts.Kind.{Kind}
+use Rattle.chip.specs.declared.parts.Config.{Config}
 use Rattle.chip.specs.declared.parts.Phase.{Phase}
 use Rattle.chip.specs.declared.parts.Phase.TheVariants.{Unwoken, Awake}
 use Rattle.chip.specs.declared.parts.State.{State}
@@ -16,19 +16,19 @@ unwoken Unwoken = true
 unwoken Awake = false
 
 -- 13 unless the chip is awake, then 14 where the pulse is shorter than tRP
-abbrev pub reset_refused : Kind → State → ℕ → Option Refusal
+abbrev pub reset_refused : Config → State → ℕ → Option Refusal
 reset_refused k s pulse = first ((unwoken s.phase, WrongPhase) ∷ (nat_lt pulse k.clock.trp, TooSoon) ∷ [])
 
 -- the registers are those of the table and the wait is due; the latest low clocks and the counts stay
-abbrev pub after_pulse : Kind → State → Bool → State
+abbrev pub after_pulse : Config → State → Bool → State
 after_pulse k s strobe = record {
   mr0 = reset_value k.make 0;
   mr4 = reset_value k.make 4;
   mr8 = reset_value k.make 8;
   phase = s.phase;
   strobe = strobe;
-  settling = true;
-  low = s.low;
+  trst_due = true;
+  latest_low = s.latest_low;
   frames = s.frames;
   clocks = s.clocks;
 }
@@ -40,13 +40,13 @@ pub record FreeByReset : Type 0 where
 
 -- what a reset that is taken does
 pub record Restarted (m : Meaning) (free : FreeByReset) (n : Meaning) : Type 0 where
-  pub part : SamePart m n
-  pub state : n.state ≡ after_pulse m.kind m.state free.strobe
-  pub bytes : (a : ℕ) → a < size m.kind → n.byte a ≡ free.byte a
+  pub part : SameConfig m n
+  pub state : n.state ≡ after_pulse m.config m.state free.strobe
+  pub bytes : (a : ℕ) → a < size m.config → n.byte a ≡ free.byte a
 
 abbrev pub ResetJudged : Option Refusal → Meaning → Result (Unit {0}) (Fault ℕ) → Meaning → Type 0
 ResetJudged (Some e) m r n = (r ≡ Err (fault_at e 0)) × (n ≡ m)
 ResetJudged None m r n = (r ≡ Ok tt) × ((free : FreeByReset) × Restarted m free n)
 
 pub record Resets (m : Meaning) (pulse : ℕ) (r : Result (Unit {0}) (Fault ℕ)) (n : Meaning) : Type 0 where
-  pub judged : ResetJudged (reset_refused m.kind m.state pulse) m r n
+  pub judged : ResetJudged (reset_refused m.config m.state pulse) m r n

@@ -1,11 +1,11 @@
 -- Whole runs of a chip, frames and resets one after another, and the laws of every run. Assumes nothing.
 use Rattle.std.specs.Prelude.{◌≡◌, ℕ, ◌+◌, ◌^◌, ◌<◌, ◌≤◌, true, false, List, [], ◌∷◌, length, Some, None, Ok, Err, Option, Result}
-use Rattle.fault.specs.Refusals.{account, fault_at}
+use Rattle.fault.specs.Refusals.{details, fault_at}
 use Rattle.fault.specs.declared.Fault.{Fault}
 use Rattle.fault.specs.declared.Refusal.{Refusal}
-use Rattle.frame.specs.Low.{held}
+use Rattle.frame.specs.Low.{saturated}
 use Rattle.mask.specs.Masks.{masked}
-use Rattle.chip.specs.Frames.{Sent, read, write, register_read, register_write, global_reset, place, wakes, refused, address, SamePart, Sends}
+use Rattle.chip.specs.Frames.{Sent, read, write, register_read, register_write, global_reset, place, wakes, refused, address, SameConfig, Sends}
 use Rattle.chip.specs.Meaning.{Meaning, size, refreshed, strobe_at, register_strobe}
 use Rattle.chip.specs.Resets.{reset_refused, Resets}
 use Rattle.chip.specs.declared.parts.Reply.{Reply}
@@ -25,8 +25,8 @@ Does m (resetting pulse r) n = Resets m pulse r n
 
 -- by what an event is refused, if it is; else it is taken
 abbrev pub refusal : Meaning → Event → Option Refusal
-refusal m (sending gap f old r new) = refused m.kind m.state gap f
-refusal m (resetting pulse r) = reset_refused m.kind m.state pulse
+refusal m (sending gap f old r new) = refused m.config m.state gap f
+refusal m (resetting pulse r) = reset_refused m.config m.state pulse
 
 -- the event is a reset that is taken
 abbrev pub Restart : Meaning → Event → Type 0
@@ -70,7 +70,7 @@ pub record Safe (m : Meaning) (a : ℕ) : Type 0 where
 -- a byte of the frame that is not masked lies at a, in the burst that is on the wire
 abbrev pub Reaches : Meaning → Sent → ℕ → Type 0
 Reaches m (read b s n) a = ⊥
-Reaches m (write b s d k) a = (i : ℕ) × (i < length d) × (masked k i ≡ false) × (address m.kind m.state b s i ≡ a)
+Reaches m (write b s d k) a = (i : ℕ) × (i < length d) × (masked k i ≡ false) × (address m.config m.state b s i ≡ a)
 Reaches m (register_read r) a = ⊥
 Reaches m (register_write r v) a = ⊥
 Reaches m global_reset a = ⊥
@@ -91,7 +91,7 @@ pub record Spares (a : ℕ) (m : Meaning) (e : Event) (n : Meaning) : Type 0 whe
 -- a byte that each event of a run spares is at the end what it was at the beginning
 abbrev pub ChangedByWritesOnly : Type 0
 ChangedByWritesOnly =
-    (m n : Meaning) (steps : List Step) (a : ℕ) → Runs m steps n → a < size m.kind → Each (Spares a) m steps → n.byte a ≡ m.byte a
+    (m n : Meaning) (steps : List Step) (a : ℕ) → Runs m steps n → a < size m.config → Each (Spares a) m steps → n.byte a ≡ m.byte a
 
 -- ---- the counts rise by what was sent
 
@@ -107,7 +107,7 @@ frames_in m (resetting pulse r) n = 0
 
 -- their low clocks: the latest ones, right after the frame
 abbrev pub clocks_in : Meaning → Event → Meaning → ℕ
-clocks_in m (sending gap f old r new) n = unless_refused (refusal m (sending gap f old r new)) n.state.low
+clocks_in m (sending gap f old r new) n = unless_refused (refusal m (sending gap f old r new)) n.state.latest_low
 clocks_in m (resetting pulse r) n = 0
 
 -- the two counts are in 64 bits
@@ -117,8 +117,8 @@ pub record CountsFit (m : Meaning) : Type 0 where
 
 -- the two counts are higher by so many frames and so many low clocks, and stay at 2 ^ 64 - 1
 pub record Risen (m : Meaning) (more low : ℕ) (n : Meaning) : Type 0 where
-  pub frames : n.state.frames ≡ held (m.state.frames + more)
-  pub clocks : n.state.clocks ≡ held (m.state.clocks + low)
+  pub frames : n.state.frames ≡ saturated (m.state.frames + more)
+  pub clocks : n.state.clocks ≡ saturated (m.state.clocks + low)
 
 -- over a run without a wake
 abbrev pub CountsRiseByWhatWasSent : Type 0
@@ -147,9 +147,9 @@ BufferStays (resetting pulse r) = Unit {0}
 
 -- a refused event answers one of 13 to 18, and leaves everything; so does whatever answers one of 13 to 18
 pub record RefusedLeaves (m : Meaning) (e : Event) (n : Meaning) : Type 0 where
-  pub answer : (x : Refusal) → refusal m e ≡ Some x → (fault_of e ≡ Some (fault_at x (place_of e))) × (13 ≤ (account x).number) × ((account x).number ≤ 18)
+  pub answer : (x : Refusal) → refusal m e ≡ Some x → (fault_of e ≡ Some (fault_at x (place_of e))) × (13 ≤ (details x).number) × ((details x).number ≤ 18)
   pub by_test : (x : Refusal) → refusal m e ≡ Some x → (n ≡ m) × BufferStays e
-  pub by_answer : (x : Fault ℕ) → fault_of e ≡ Some x → (account x.refusal).number ≤ 18 → (n ≡ m) × BufferStays e
+  pub by_answer : (x : Fault ℕ) → fault_of e ≡ Some x → (details x.refusal).number ≤ 18 → (n ≡ m) × BufferStays e
 
 -- of each event of every run
 abbrev pub RefusedLeavesEverything : Type 0
@@ -169,5 +169,5 @@ StrobeReturnsByResetAlone =
 
 -- ---- make, size, clock numbers and coverages never change
 
-abbrev pub PartNeverChanges : Type 0
-PartNeverChanges = (m n : Meaning) (steps : List Step) → Runs m steps n → SamePart m n
+abbrev pub ConfigNeverChanges : Type 0
+ConfigNeverChanges = (m n : Meaning) (steps : List Step) → Runs m steps n → SameConfig m n

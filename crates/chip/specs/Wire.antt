@@ -1,7 +1,7 @@
 -- What of a frame is on the wire: its five opening bytes, and what follows them. Assumes nothing.
 use Rattle.std.specs.Prelude.{◌≡◌, ℕ, ◌<◌, Bool, true, false, List, [], ◌∷◌, Some, None, Option, Result}
 use Rattle.fault.specs.declared.Fault.{Fault}
-use Rattle.frame.specs.Opening.{last_address, opening, opened}
+use Rattle.frame.specs.OpeningBytes.{last_address, opening_bytes, from_opening_bytes}
 use Rattle.frame.specs.declared.burst.Burst.{Burst}
 use Rattle.frame.specs.declared.burst.Burst.TheVariants.{Linear, Wrapped, Hybrid}
 use Rattle.frame.specs.declared.command.Command.{Command}
@@ -37,8 +37,8 @@ address_of_frame (register_write r v) = r
 address_of_frame global_reset = 0
 
 -- the five opening bytes, where the address fits
-abbrev pub opening_of_frame : Sent → Option (List ℕ)
-opening_of_frame f = opening (command_of_frame f) (address_of_frame f)
+abbrev pub frame_opening_bytes : Sent → Option (List ℕ)
+frame_opening_bytes f = opening_bytes (command_of_frame f) (address_of_frame f)
 
 -- what follows: how many bytes are read, the bytes that are written, and their mask
 pub record Follows : Type 0 where
@@ -56,12 +56,12 @@ follows_in_frame global_reset = record { count = 0; bytes = []; mask = [] }
 -- opening bytes decode again to command and address; there are none only where the address does not fit
 abbrev pub Decodes : Option (List ℕ) → Command → ℕ → Type 0
 Decodes None c a = last_address c < a
-Decodes (Some bytes) c a = opened bytes ≡ Some (c, a)
+Decodes (Some bytes) c a = from_opening_bytes bytes ≡ Some (c, a)
 
 -- a frame that a chip takes has opening bytes
 abbrev pub TakenHasOpening : Type 0
 TakenHasOpening =
-    (m : Meaning) (gap : ℕ) (f : Sent) → Lawful m → refused m.kind m.state gap f ≡ None → (bytes : List ℕ) × (opening_of_frame f ≡ Some bytes)
+    (m : Meaning) (gap : ℕ) (f : Sent) → Lawful m → refused m.config m.state gap f ≡ None → (bytes : List ℕ) × (frame_opening_bytes f ≡ Some bytes)
 
 -- what one frame may do, another may
 abbrev pub DoesTheSame : Sent → Sent → Type 0
@@ -75,4 +75,4 @@ pub record SameOnTheWire : Type 0 where
   pub reads : (b c : Burst) (a n : ℕ) → linear b ≡ linear c → DoesTheSame (read b a n) (read c a n)
   pub writes : (b c : Burst) (a : ℕ) (d m : List ℕ) → linear b ≡ linear c → DoesTheSame (write b a d m) (write c a d m)
   -- of two frames with the same opening bytes, and the same behind them
-  pub frames : (f g : Sent) (bytes : List ℕ) → opening_of_frame f ≡ Some bytes → opening_of_frame g ≡ Some bytes → follows_in_frame f ≡ follows_in_frame g → DoesTheSame f g
+  pub frames : (f g : Sent) (bytes : List ℕ) → frame_opening_bytes f ≡ Some bytes → frame_opening_bytes g ≡ Some bytes → follows_in_frame f ≡ follows_in_frame g → DoesTheSame f g

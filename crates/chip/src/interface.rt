@@ -4,7 +4,7 @@ ghost use Rattle.chip.specs.Frames.{sent, Sends};
 ghost use Rattle.chip.specs.Meaning.{Meaning, Lawful};
 ghost use Rattle.chip.specs.Resets.{Resets};
 
-use crate::parts::{Frame, Kind, Reply, State};
+use crate::parts::{Config, Frame, Reply, State};
 use fault::Fault;
 use register::Coverage;
 
@@ -13,8 +13,8 @@ pub trait Chip {
     ghost meaning: { Self → Meaning };
 
     // The make, the pages and the clock numbers.
-    fn kind(&self) -> Kind
-        ensures { result ≡ (meaning self.now).kind };
+    fn config(&self) -> Config
+        ensures { result ≡ (meaning self.now).config };
 
     // All that changes but the bytes.
     fn state(&self) -> State

@@ -2,18 +2,18 @@
 ghost use Rattle.std.specs.Prelude.{◌≡◌, ℕ, None, Some, MatchResult, nat_lt};
 ghost use Rattle.chip.specs.Frames.{sent, place, carries, low_for, least_gap, bad_start, bad_count, too_long, bad_register, unfit};
 
-use crate::parts::{Frame, Kind, Phase, State};
+use crate::parts::{Config, Frame, Phase, State};
 use fault::{Fault, Refusal};
 use frame::Transfer;
 use register::{Mr0, Mr4, accepts, readable};
 
 // Whether a gap is shorter than tCPH, tRC less the latest low clocks, or a wait that is due.
-fn too_soon(kind: Kind, state: State, gap: u32) -> bool
-    ensures { result ≡ nat_lt gap (least_gap kind state) }
+fn too_soon(config: Config, state: State, gap: u32) -> bool
+    ensures { result ≡ nat_lt gap (least_gap config state) }
 {
-    let clock = kind.clock;
-    let cycle = u64::from(clock.trc).saturating_sub(state.low);
-    let settle = if state.settling { clock.trst } else { 0 };
+    let clock = config.clock;
+    let cycle = u64::from(clock.trc).saturating_sub(state.latest_low);
+    let settle = if state.trst_due { clock.trst } else { 0 };
     let power_up = match state.phase {
         Phase::Unwoken => clock.tpu,
         Phase::Awake => 0,
@@ -36,13 +36,13 @@ impl Frame<'_> {
     }
 
     // Whether it is a memory frame that starts at an odd address, or at or past the size.
-    fn bad_start(self, kind: Kind) -> bool
-        ensures { (n : ℕ) → result ≡ bad_start kind (sent self.entry n) }
+    fn bad_start(self, config: Config) -> bool
+        ensures { (n : ℕ) → result ≡ bad_start config (sent self.entry n) }
     {
         match self {
             Frame::Read { start, .. } | Frame::Write { start, .. } => {
                 start % 2 == 1
-                    || u64::from(start) >= u64::from(kind.pages) * u64::from(kind.make.page())
+                    || u64::from(start) >= u64::from(config.pages) * u64::from(config.make.page())
             }
             Frame::RegisterRead { .. } | Frame::RegisterWrite { .. } | Frame::GlobalReset => false,
         }
@@ -91,11 +91,13 @@ impl Frame<'_> {
     }
 
     // Whether CE# would be low for longer than tCEM, a memory read counted with 2 LC.
-    fn too_long(self, kind: Kind, state: State, room: usize) -> bool
-        ensures { result ≡ too_long kind state (sent self.entry room) }
+    fn too_long(self, config: Config, state: State, room: usize) -> bool
+        ensures { result ≡ too_long config state (sent self.entry room) }
     {
         let latency = 2 * Mr0::from(state.mr0).lc.clocks();
-        !kind.clock.keeps_tcem(self.low_clocks(state, room, latency))
+        !config
+            .clock
+            .keeps_tcem(self.low_clocks(state, room, latency))
     }
 
     // Whether the register cannot be read, or written with this value.
@@ -112,16 +114,16 @@ impl Frame<'_> {
     // What refuses a frame that the phase takes: the first of 14, 15, 16, 17 and 18 that applies, if
     // any does. 13 is the chip's.
     #[tactic(auto, unfolding(crate::specs::Frames::first))]
-    pub fn judge(self, kind: Kind, state: State, gap: u32, room: usize) -> Result<(), Fault>
-        ensures { MatchResult result (λ _. unfit kind state gap (sent self.entry room) ≡ None) (λ e. (unfit kind state gap (sent self.entry room) ≡ Some e.refusal) × (e.place ≡ place (sent self.entry room))) }
+    pub fn judge(self, config: Config, state: State, gap: u32, room: usize) -> Result<(), Fault>
+        ensures { MatchResult result (λ _. unfit config state gap (sent self.entry room) ≡ None) (λ e. (unfit config state gap (sent self.entry room) ≡ Some e.refusal) × (e.place ≡ place (sent self.entry room))) }
     {
-        let refusal = if too_soon(kind, state, gap) {
+        let refusal = if too_soon(config, state, gap) {
             Refusal::TooSoon
-        } else if self.bad_start(kind) {
+        } else if self.bad_start(config) {
             Refusal::BadStart
         } else if self.bad_count(room) {
             Refusal::BadCount
-        } else if self.too_long(kind, state, room) {
+        } else if self.too_long(config, state, room) {
             Refusal::TooLong
         } else if self.bad_register() {
             Refusal::BadRegister

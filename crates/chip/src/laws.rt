@@ -2,8 +2,8 @@
 ghost use Rattle.std.specs.Prelude.{◌≡◌, ℕ, length};
 ghost use Rattle.chip.specs.Exchanges.{low_by_answer, Exchanged};
 ghost use Rattle.chip.specs.Frames.{sent};
-ghost use Rattle.chip.specs.Runs.{sending, ChangedByWritesOnly, CountsRiseByWhatWasSent, RefusedLeavesEverything, StrobeReturnsByResetAlone, PartNeverChanges};
-ghost use Rattle.chip.specs.Wire.{command_of_frame, address_of_frame, opening_of_frame, Decodes, TakenHasOpening, SameOnTheWire};
+ghost use Rattle.chip.specs.Runs.{sending, ChangedByWritesOnly, CountsRiseByWhatWasSent, RefusedLeavesEverything, StrobeReturnsByResetAlone, ConfigNeverChanges};
+ghost use Rattle.chip.specs.Wire.{command_of_frame, address_of_frame, frame_opening_bytes, Decodes, TakenHasOpening, SameOnTheWire};
 
 use crate::interface::Chip;
 use crate::parts::{Frame, Reply};
@@ -37,10 +37,10 @@ pub fn exchange<C: Chip>(chip: &mut C, gap: u32, frame: Frame<'_>, buffer: &mut 
     ensures counts_rise_by_what_was_sent { CountsRiseByWhatWasSent }
     ensures refused_leaves_everything { RefusedLeavesEverything }
     ensures strobe_returns_by_reset_alone { StrobeReturnsByResetAlone }
-    ensures part_never_changes { PartNeverChanges }
+    ensures config_never_changes { ConfigNeverChanges }
 {
     let answer = chip.send(gap, frame, buffer);
-    let low = low_by_answer(answer, chip.state().low);
+    let low = low_by_answer(answer, chip.state().latest_low);
     Outcome { answer, low }
 }
 
@@ -69,13 +69,13 @@ impl Frame<'_> {
 
     // The five bytes that open this frame on the wire. None where the start does not fit; no chip
     // takes such a frame.
-    pub fn opening(self) -> Option<[u8; 5]>
-        ensures value { (n : ℕ) → result ≡ opening_of_frame (sent self.entry n) }
+    pub fn opening_bytes(self) -> Option<[u8; 5]>
+        ensures value { (n : ℕ) → result ≡ frame_opening_bytes (sent self.entry n) }
         ensures decodes { (n : ℕ) → Decodes result (command_of_frame (sent self.entry n)) (address_of_frame (sent self.entry n)) }
         ensures taken_has_opening { TakenHasOpening }
         ensures same_on_the_wire { SameOnTheWire }
     {
         let (command, address) = self.command();
-        command.opening(address)
+        command.opening_bytes(address)
     }
 }

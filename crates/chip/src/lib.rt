@@ -9,4 +9,4 @@ mod parts;
 
 pub use interface::Chip;
 pub use laws::{Outcome, exchange};
-pub use parts::{Frame, Kind, Phase, Reply, State};
+pub use parts::{Config, Frame, Phase, Reply, State};

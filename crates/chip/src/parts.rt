@@ -4,7 +4,7 @@ use frame::{Burst, Make};
 
 // What never changes: the make, the size in pages, the clock numbers.
 #[derive(Clone, Copy, Debug, PartialEq, Eq)]
-pub struct Kind {
+pub struct Config {
     pub make: Make,
     pub pages: u32,
     pub clock: Clock,
@@ -27,9 +27,9 @@ pub struct State {
     // the strobe DQS comes with reads
     pub strobe: bool,
     // the wait after wake or reset is due
-    pub settling: bool,
+    pub trst_due: bool,
     // the low clocks of the latest frame
-    pub low: u64,
+    pub latest_low: u64,
     // the frames since the wake frame, and the sum of their low clocks; each stays at 2^64 - 1
     pub frames: u64,
     pub clocks: u64,

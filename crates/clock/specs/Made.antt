@@ -3,17 +3,17 @@ use Rattle.std.specs.Prelude.{◌≡◌, ℕ, ◌+◌, ◌*◌, ◌/◌, ◌<◌
 use Rattle.fault.specs.declared.Refusal.{Refusal}
 use Rattle.fault.specs.declared.Refusal.TheVariants.{ClockOutOfRange, ClockTooSlow}
 use Rattle.clock.specs.Times.{tcem_ns, whole, latency, clocks}
-use Rattle.clock.specs.declared.range.Range.{Range}
+use Rattle.clock.specs.declared.range.TemperatureRange.{TemperatureRange}
 use Rattle.clock.specs.declared.numbers.Clock.{Clock}
 
 -- 2 where the clock is 0 or above 133,000 kHz, then 3 where CE# may be low for less than 35 + 2 LC clocks
-abbrev pub refused : ℕ → Range → Option Refusal
+abbrev pub refused : ℕ → TemperatureRange → Option Refusal
 refused khz range =
     cond (khz == 0 || nat_lt 133000 khz) (Some ClockOutOfRange)
     (cond (nat_lt (whole (tcem_ns range) khz) (35 + 2 * clocks (latency khz))) (Some ClockTooSlow) None)
 
 -- the numbers of this clock and range: the type has the rest
-pub record For (khz : ℕ) (range : Range) (k : Clock) : Type 0 where
+pub record IsClockFor (khz : ℕ) (range : TemperatureRange) (k : Clock) : Type 0 where
   pub khz_is : k.khz ≡ khz
   pub range_is : k.range ≡ range
 

@@ -2,11 +2,11 @@
 use Rattle.std.specs.Prelude.{ℕ, ◌+◌, ◌*◌, ◌/◌, cond, nat_le}
 use Rattle.clock.specs.declared.range.Latency.{Latency}
 use Rattle.clock.specs.declared.range.Latency.TheVariants.{Three, Four, Five}
-use Rattle.clock.specs.declared.range.Range.{Range}
-use Rattle.clock.specs.declared.range.Range.TheVariants.{Normal, Extended}
+use Rattle.clock.specs.declared.range.TemperatureRange.{TemperatureRange}
+use Rattle.clock.specs.declared.range.TemperatureRange.TheVariants.{Normal, Extended}
 
 -- the longest that CE# may be low
-abbrev pub tcem_ns : Range → ℕ
+abbrev pub tcem_ns : TemperatureRange → ℕ
 tcem_ns Normal = 4000
 tcem_ns Extended = 1000
 

@@ -6,4 +6,4 @@ mod numbers;
 mod range;
 
 pub use numbers::Clock;
-pub use range::{Latency, Range};
+pub use range::{Latency, TemperatureRange};

@@ -1,10 +1,10 @@
 // Working the clock numbers out, and what is asked of them.
 ghost use Rattle.std.specs.Prelude.{◌≡◌, ◌≤◌, Some, None, Decides, MatchResult, nat_le};
 ghost use Rattle.clock.specs.Times.{tcem_ns, latency, clocks, started};
-ghost use Rattle.clock.specs.Made.{refused, For, LastsAtMost, period, Nearest};
+ghost use Rattle.clock.specs.Made.{refused, IsClockFor, LastsAtMost, period, Nearest};
 
 use crate::numbers::Clock;
-use crate::range::{Latency, Range};
+use crate::range::{Latency, TemperatureRange};
 use fault::Refusal;
 
 // The times of the data sheet, in nanoseconds.
@@ -27,14 +27,14 @@ fn started(ns: u64, khz: u32) -> u32
     (ns * u64::from(khz)).div_ceil(1_000_000) as u32
 }
 
-impl Range {
+impl TemperatureRange {
     // tCEM in nanoseconds.
     fn tcem_ns(self) -> u64
         ensures { result ≡ tcem_ns self }
     {
         match self {
-            Range::Normal => 4_000,
-            Range::Extended => 1_000,
+            TemperatureRange::Normal => 4_000,
+            TemperatureRange::Extended => 1_000,
         }
     }
 }
@@ -65,8 +65,8 @@ impl Clock {
     // The numbers of a clock in kHz and a range; 2 where the clock is 0 or above 133,000, then 3
     // where CE# may be low for fewer than 35 + 2 LC clocks.
     // (The two stay apart: what joins them is the clock.)
-    pub fn new(khz: u32, range: Range) -> Result<Clock, Refusal>
-        ensures { MatchResult result (λ k. For khz range k × (refused khz range ≡ None)) (λ e. refused khz range ≡ Some e) }
+    pub fn new(khz: u32, range: TemperatureRange) -> Result<Clock, Refusal>
+        ensures { MatchResult result (λ k. IsClockFor khz range k × (refused khz range ≡ None)) (λ e. refused khz range ≡ Some e) }
     {
         if khz == 0 || khz > 133_000 {
             return Err(Refusal::ClockOutOfRange);

@@ -2,14 +2,14 @@
 ghost use Rattle.std.specs.Prelude.{◌≡◌, ◌+◌, ◌*◌, ◌<◌, ◌≤◌};
 ghost use Rattle.clock.specs.Times.{TCPH, TRC, TRST, TPU, TRP, tcem_ns, latency, clocks, whole, started};
 
-use crate::range::{Latency, Range};
+use crate::range::{Latency, TemperatureRange};
 
 // Times of the data sheet as numbers of clocks. Each value of this type holds every equation.
 #[derive(Clone, Copy, Debug, PartialEq, Eq)]
 pub struct Clock {
     // the clock, in kHz: 1 to 133,000
     pub khz: u32,
-    pub range: Range,
+    pub range: TemperatureRange,
     // the read latency (LC) and the write latency (WL) that this clock needs
     pub lc: Latency,
     pub wl: Latency,

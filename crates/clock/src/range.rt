@@ -10,7 +10,7 @@ use std::fmt;
 // The temperature range of the part. It sets tCEM: 4,000 ns in the normal range, 1,000 ns in the
 // extended one.
 #[derive(Clone, Copy, Debug, PartialEq, Eq)]
-pub enum Range {
+pub enum TemperatureRange {
     Normal,
     Extended,
 }
@@ -23,27 +23,27 @@ pub enum Latency {
     Five = 5,
 }
 
-impl TryFrom<char> for Range {
+impl TryFrom<char> for TemperatureRange {
     type Error = Unknown<char>;
 
     ghost try_from_gives = { Named letter };
 
-    fn try_from(letter: char) -> Result<Range, Unknown<char>> {
+    fn try_from(letter: char) -> Result<TemperatureRange, Unknown<char>> {
         match letter {
-            'N' => Ok(Range::Normal),
-            'X' => Ok(Range::Extended),
+            'N' => Ok(TemperatureRange::Normal),
+            'X' => Ok(TemperatureRange::Extended),
             _ => Err(Unknown(letter)),
         }
     }
 }
 
-impl fmt::Display for Range {
+impl fmt::Display for TemperatureRange {
     ghost output = { λ r. Some (letter r ∷ []) };
 
     fn fmt<W: fmt::Write>(&self, f: &mut fmt::Formatter<W>) -> fmt::Result {
         f.write_str(match self {
-            Range::Normal => "N",
-            Range::Extended => "X",
+            TemperatureRange::Normal => "N",
+            TemperatureRange::Extended => "X",
         })
     }
 }

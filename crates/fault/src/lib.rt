@@ -3,7 +3,7 @@
 
 ghost use Rattle.std.specs.Prelude.{◌≡◌, Some};
 ghost use Rattle.fault.specs.Names.{layer_name};
-ghost use Rattle.fault.specs.Refusals.{account, refuses, fault_at};
+ghost use Rattle.fault.specs.Refusals.{details, refuses, fault_at};
 
 use std::fmt;
 
@@ -64,7 +64,7 @@ pub enum Refusal {
 
 // What a refusal says in numbers.
 #[derive(Clone, Copy, Debug, PartialEq, Eq)]
-pub struct Account {
+pub struct Details {
     pub number: u8,
     pub layer: Layer,
     // the bytes that are good, where the strobe was lost
@@ -103,11 +103,11 @@ impl fmt::Display for Layer {
 }
 
 impl Layer {
-    // An account with no good bytes.
-    fn refuses(self, number: u8) -> Account
+    // Details with no good bytes.
+    fn refuses(self, number: u8) -> Details
         ensures { result ≡ refuses self number }
     {
-        Account {
+        Details {
             number,
             layer: self,
             good: None,
@@ -117,8 +117,8 @@ impl Layer {
 
 impl Refusal {
     // The number, the layer and the good bytes of this refusal.
-    pub fn account(self) -> Account
-        ensures { result ≡ account self }
+    pub fn details(self) -> Details
+        ensures { result ≡ details self }
     {
         match self {
             Refusal::BadSetup => Layer::Script.refuses(1),
@@ -139,7 +139,7 @@ impl Refusal {
             Refusal::BadCount => Layer::Chip.refuses(16),
             Refusal::TooLong => Layer::Chip.refuses(17),
             Refusal::BadRegister => Layer::Chip.refuses(18),
-            Refusal::NoStrobe(good) => Account {
+            Refusal::NoStrobe(good) => Details {
                 number: 19,
                 layer: Layer::Chip,
                 good: Some(good),

@@ -3,7 +3,7 @@ use Rattle.std.proofs.Common.{◌≡◌, ℕ, ◌+◌, ◌*◌, ◌/◌, ◌%◌
 use Rattle.std.proofs.lemmas.List.{same_lists, places}
 use Rattle.std.proofs.lemmas.Bool.{le-leb, cond-true}
 use Rattle.std.proofs.lemmas.Bool.Decides.{nat_tests}
-use Rattle.frame.specs.Opening.{code, last_address, address_of, opening, command_of, carried, GivesBack}
+use Rattle.frame.specs.OpeningBytes.{code, last_address, address_of, opening_bytes, command_of, carried, GivesBack}
 use Rattle.frame.specs.declared.command.Command.{Command}
 use Rattle.frame.specs.declared.command.Command.TheVariants.{Read, LinearRead, Write, LinearWrite, RegisterRead, RegisterWrite, GlobalReset}
 
@@ -56,7 +56,7 @@ same_five : (v w x y z v' w' x' y' z' : ℕ) → v ≡ v' → w ≡ w' → x ≡
 same_five v w x y z v' w' x' y' z' a b c d e = cc
 
 -- five bytes that open a frame are its opening bytes
-pub reopened : (bs : List ℕ) (c : Command) (a : ℕ) → length bs ≡ 5 → get_or bs 2 0 < 256 → get_or bs 3 0 < 256 → get_or bs 4 0 < 256 → command_of (get_or bs 0 0) ≡ Some c → a ≡ address_of bs → a ≤ last_address c → opening c a ≡ Some bs
+pub reopened : (bs : List ℕ) (c : Command) (a : ℕ) → length bs ≡ 5 → get_or bs 2 0 < 256 → get_or bs 3 0 < 256 → get_or bs 4 0 < 256 → command_of (get_or bs 0 0) ≡ Some c → a ≡ address_of bs → a ≤ last_address c → opening_bytes c a ≡ Some bs
 reopened bs c a long f2 f1 f0 e is h =
     let top = low_bytes c a h in
     cond-true _ _ _ (le-leb a (last_address c) h) ∙ ap Some (same_five _ _ _ _ _ _ _ _ _ _ (code_of _ c e) (omega arith) (omega arith) (omega arith) (omega arith) ∙ sym (five bs long))

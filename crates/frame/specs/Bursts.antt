@@ -26,10 +26,10 @@ abbrev pub hybrid : ℕ → ℕ → ℕ → ℕ → ℕ
 hybrid p b s i = cond (nat_lt i b) (wrapped b s i) (base p s + (base b s - base p s + i) % p)
 
 -- byte i of a burst from s
-abbrev pub at : Make → Burst → ℕ → ℕ → ℕ
-at m Linear s i = wrapped (page m) s i
-at m (Wrapped b) s i = wrapped (bytes m b) s i
-at m (Hybrid Page) s i = wrapped (page m) s i
-at m (Hybrid Bytes16) s i = hybrid (page m) 16 s i
-at m (Hybrid Bytes32) s i = hybrid (page m) 32 s i
-at m (Hybrid Bytes64) s i = hybrid (page m) 64 s i
+abbrev pub burst_address : Make → Burst → ℕ → ℕ → ℕ
+burst_address m Linear s i = wrapped (page m) s i
+burst_address m (Wrapped b) s i = wrapped (bytes m b) s i
+burst_address m (Hybrid Page) s i = wrapped (page m) s i
+burst_address m (Hybrid Bytes16) s i = hybrid (page m) 16 s i
+burst_address m (Hybrid Bytes32) s i = hybrid (page m) 32 s i
+burst_address m (Hybrid Bytes64) s i = hybrid (page m) 64 s i

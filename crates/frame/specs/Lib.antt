@@ -1,5 +1,5 @@
 pub mod Pages
-pub mod Opening
+pub mod OpeningBytes
 pub mod Bursts
 pub mod Orders
 pub mod Low

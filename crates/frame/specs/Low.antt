@@ -20,5 +20,5 @@ abbrev pub low_clocks_of : List Transfer → ℕ
 low_clocks_of frames = sum_by low_clocks frames
 
 -- a count that stays where it is at 2 ^ 64 - 1
-abbrev pub held : ℕ → ℕ
-held n = min n (2 ^ 64 - 1)
+abbrev pub saturated : ℕ → ℕ
+saturated n = min n (2 ^ 64 - 1)

@@ -1,6 +1,6 @@
 // The order in which a memory frame goes through its addresses.
 ghost use Rattle.std.specs.Prelude.{◌≡◌};
-ghost use Rattle.frame.specs.Bursts.{bytes, wrapped, at};
+ghost use Rattle.frame.specs.Bursts.{bytes, wrapped, burst_address};
 ghost use Rattle.frame.specs.Orders.{Ordered};
 
 use crate::make::Make;
@@ -52,7 +52,7 @@ impl Burst {
     // The address of byte `i`, from 0, of a burst from `start`.
     #[tactic(auto, using(crate::proofs::Orders::ordered))]
     pub fn address(self, make: Make, start: u32, i: usize) -> u32
-        ensures value { result ≡ at make self start i }
+        ensures value { result ≡ burst_address make self start i }
         ensures ordered { Ordered make start }
     {
         match self {

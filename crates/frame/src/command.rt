@@ -1,7 +1,7 @@
 // The commands, and the five bytes that open a frame.
 ghost use Rattle.std.specs.Prelude.{◌≡◌};
 ghost use Rattle.fault.specs.Names.{Named};
-ghost use Rattle.frame.specs.Opening.{code, last_address, opening, opened, GivesBack, Opens};
+ghost use Rattle.frame.specs.OpeningBytes.{code, last_address, opening_bytes, from_opening_bytes, GivesBack, Opens};
 
 use fault::Unknown;
 
@@ -58,8 +58,8 @@ impl Command {
     // The five bytes that open a frame: the command, a 0, and the address, high byte first.
     // None where the address does not fit.
     #[tactic(auto, using(crate::proofs::Reopens::gives_back))]
-    pub fn opening(self, address: u32) -> Option<[u8; 5]>
-        ensures value { result ≡ opening self address }
+    pub fn opening_bytes(self, address: u32) -> Option<[u8; 5]>
+        ensures value { result ≡ opening_bytes self address }
         ensures gives_back { GivesBack }
     {
         if address > self.last_address() {
@@ -71,8 +71,8 @@ impl Command {
 
     // The command and the address that five bytes open a frame of; None where they open none.
     #[tactic(auto, using(crate::proofs::Reopens::command_at, crate::proofs::Reopens::no_command))]
-    pub fn opened(bytes: [u8; 5]) -> Option<(Command, u32)>
-        ensures value { result ≡ opened bytes }
+    pub fn from_opening_bytes(bytes: [u8; 5]) -> Option<(Command, u32)>
+        ensures value { result ≡ from_opening_bytes bytes }
         ensures opens { Opens bytes result }
     {
         let [first, a3, a2, a1, a0] = &bytes;

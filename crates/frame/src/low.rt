@@ -1,6 +1,6 @@
 // How many clocks CE# is low.
 ghost use Rattle.std.specs.Prelude.{◌≡◌};
-ghost use Rattle.frame.specs.Low.{low_clocks, low_clocks_of, held};
+ghost use Rattle.frame.specs.Low.{low_clocks, low_clocks_of, saturated};
 
 use clock::Latency;
 
@@ -39,7 +39,7 @@ impl Transfer {
 
 // The sum of the low clocks of these frames, held at 2^64 - 1.
 pub fn low_clocks_of(frames: &[Transfer]) -> u64
-    ensures { result ≡ held (low_clocks_of frames.now) }
+    ensures { result ≡ saturated (low_clocks_of frames.now) }
 {
     let mut sum = 0u64;
     for frame in frames {

@@ -7,13 +7,13 @@ use Rattle.clock.specs.Times.{clocks, tcem_ns, whole}
 use Rattle.clock.specs.declared.numbers.Clock.{Clock}
 use Rattle.clock.specs.declared.range.Latency.{Latency}
 use Rattle.clock.specs.declared.range.Latency.TheVariants.{Three, Four, Five}
-use Rattle.clock.specs.declared.range.Range.{Range}
-use Rattle.clock.specs.declared.range.Range.TheVariants.{Normal, Extended}
+use Rattle.clock.specs.declared.range.TemperatureRange.{TemperatureRange}
+use Rattle.clock.specs.declared.range.TemperatureRange.TheVariants.{Normal, Extended}
 use Rattle.fault.specs.Refusals.{fault_at}
 use Rattle.fault.specs.declared.Fault.{Fault}
 use Rattle.fault.specs.declared.Refusal.{Refusal}
 use Rattle.fault.specs.declared.Refusal.TheVariants.{WrongPhase, TooSoon, BadStart, BadCount, TooLong, BadRegister}
-use Rattle.frame.specs.Bursts.{at}
+use Rattle.frame.specs.Bursts.{burst_address}
 use Rattle.frame.specs.Low.{low_clocks}
 use Rattle.frame.specs.declared.burst.Burst.{Burst}
 use Rattle.frame.specs.declared.low.Transfer.TheVariants as transfer
@@ -24,7 +24,7 @@ use Rattle.chip.specs.Meaning.{Meaning, write_latency}
 use Rattle.chip.specs.Resets.{reset_refused, ResetJudged, Resets}
 use Rattle.chip.specs.declared.parts.Frame.{Frame}
 use Rattle.chip.specs.declared.parts.Frame.TheVariants as frame
-use Rattle.chip.specs.declared.parts.Kind.{Kind}
+use Rattle.chip.specs.declared.parts.Config.{Config}
 use Rattle.chip.specs.declared.parts.Reply.{Reply}
 use Rattle.chip.specs.declared.parts.Reply.TheVariants.{Done}
 use Rattle.chip.specs.declared.parts.State.{State}
@@ -74,22 +74,22 @@ byte_mixed h new stays goes other k e f =
 -- a frame g below for a frame f above: they store the same bytes, each in its own form, and agree in all else
 module _ (key : List ℕ) (m : Meaning) (g f : Sent) where
   record Stands : Type 0 where
-    pub leaves : (free : FreeByFrame) → after m.kind m.state g free ≡ after m.kind m.state f free
-    pub stores : (a old : ℕ) → bit_xor (stored m.kind m.state g a old) (key_at key a) ≡ stored m.kind m.state f a (bit_xor old (key_at key a))
+    pub leaves : (free : FreeByFrame) → after m.config m.state g free ≡ after m.config m.state f free
+    pub stores : (a old : ℕ) → bit_xor (stored m.config m.state g a old) (key_at key a) ≡ stored m.config m.state f a (bit_xor old (key_at key a))
     pub keeps : (n : Meaning) (a : ℕ) → holds m n g a ≡ holds m n f a
-    pub answers : (n : Meaning) → answer_by m.kind m.state (answered n g) g ≡ answer_by m.kind m.state (answered n f) f
+    pub answers : (n : Meaning) → answer_by m.config m.state (answered n g) g ≡ answer_by m.config m.state (answered n f) f
     pub placed : place g ≡ place f
 
 module _ (key : List ℕ) (m n : Meaning) (g f : Sent) (stands : Stands key m g f) (old mid new : List ℕ) (r : Result Reply (Fault ℕ)) where
-  taken_above : (free : FreeByFrame) → Filled m.kind m.state (answered n f) f (scrambler key n).byte old new → Taken m g free old r n mid → Taken (scrambler key m) f (free_mixed key free) old r (scrambler key n) new
+  taken_above : (free : FreeByFrame) → Filled m.config m.state (answered n f) f (scrambler key n).byte old new → Taken m g free old r n mid → Taken (scrambler key m) f (free_mixed key free) old r (scrambler key n) new
   unfolding free_mixed
   taken_above free full t = record {
     allowed = record { strobe = t.allowed.strobe; latency = t.allowed.latency };
-    part = record { kind = t.part.kind; refreshes = t.part.refreshes };
+    part = record { config = t.part.config; refreshes = t.part.refreshes };
     state = t.state ∙ stands.leaves free;
     bytes = λ a in_it.
         byte_mixed _ (n.byte a) _ _ (free.byte a) (key_at key a) (t.bytes a in_it) (stands.stores a (m.byte a))
-        ∙ ap (λ h. cond h (stored m.kind m.state f a (bit_xor (m.byte a) (key_at key a))) (bit_xor (free.byte a) (key_at key a))) (stands.keeps n a);
+        ∙ ap (λ h. cond h (stored m.config m.state f a (bit_xor (m.byte a) (key_at key a))) (bit_xor (free.byte a) (key_at key a))) (stands.keeps n a);
     answer = t.answer ∙ stands.answers n;
     buffer = full;
   }
@@ -120,7 +120,7 @@ stands_straight key m (register_read n) is = record { leaves = λ _. refl; store
 stands_straight key m (register_write n v) is = record { leaves = λ _. refl; stores = λ _ _. refl; keeps = λ _ _. refl; answers = λ _. refl; placed = refl }
 stands_straight key m global_reset is = record { leaves = λ _. refl; stores = λ _ _. refl; keeps = λ _ _. refl; answers = λ _. refl; placed = refl }
 
-straight_filled : (k : Kind) (s : State) (there : Bool) (f : Sent) (byte over : ℕ → ℕ) (old new : List ℕ) → Straight f → Filled k s there f byte old new → Filled k s there f over old new
+straight_filled : (k : Config) (s : State) (there : Bool) (f : Sent) (byte over : ℕ → ℕ) (old new : List ℕ) → Straight f → Filled k s there f byte old new → Filled k s there f over old new
 straight_filled k s there (read b a n) byte over old new is full = absurd is
 straight_filled k s there (write b a d m) byte over old new is full = absurd is
 straight_filled k s there (register_read n) byte over old new is full = full
@@ -133,12 +133,12 @@ module _ (key : List ℕ) (m n : Meaning) (f : Sent) (is : Straight f) (old new 
   straight_judged None (free, t) = (
     free_mixed key free,
     taken_above key m n f f (stands_straight key m f is) old new new r free
-        (straight_filled m.kind m.state (answered n f) f n.byte (scrambler key n).byte old new is t.buffer)
+        (straight_filled m.config m.state (answered n f) f n.byte (scrambler key n).byte old new is t.buffer)
         t,
   )
 
   pub sends_straight : (gap : ℕ) → Sends m gap f old r n new → Sends (scrambler key m) gap f old r (scrambler key n) new
-  sends_straight gap below = record { judged = straight_judged (refused m.kind m.state gap f) below.judged }
+  sends_straight gap below = record { judged = straight_judged (refused m.config m.state gap f) below.judged }
 
 -- ---- a read
 
@@ -168,14 +168,14 @@ filled_mixed key p byte old mid new is (long, each) =
 
 module _ (key : List ℕ) (m n : Meaning) (b : Burst) (a : ℕ) (old mid : List ℕ) where
   -- the burst is combined after the read, which leaves make and MR8
-  read_answered : (new : List ℕ) (o : Option Refusal) (x : Reply) → Combined key (address n.kind n.state b a) mid new → Judged o m (read b a (length old)) old (Ok x) n mid → Judged o (scrambler key m) (read b a (length old)) old (Ok x) (scrambler key n) new
+  read_answered : (new : List ℕ) (o : Option Refusal) (x : Reply) → Combined key (address n.config n.state b a) mid new → Judged o m (read b a (length old)) old (Ok x) n mid → Judged o (scrambler key m) (read b a (length old)) old (Ok x) (scrambler key n) new
   read_answered new (Some e) x is (answer, _, _) = cc
   read_answered new None x is (free, t) =
       let there = strobe_there n.state.strobe x Done _ t.answer in
-      let before = subst (λ (p : ℕ → ℕ). Combined key p mid new) (λ j i. at (t.part.kind j).make (on_wire b (t.state j).mr8) a i) is in (
+      let before = subst (λ (p : ℕ → ℕ). Combined key p mid new) (λ j i. burst_address (t.part.config j).make (on_wire b (t.state j).mr8) a i) is in (
         free_mixed key free,
         taken_above key m n (read b a (length old)) (read b a (length old)) (stands_read key m b a (length old)) old mid new (Ok x) free
-            (when_is_true _ _ n.state.strobe there (filled_mixed key (address m.kind m.state b a) n.byte old mid new before (when_true _ _ there t.buffer)))
+            (when_is_true _ _ n.state.strobe there (filled_mixed key (address m.config m.state b a) n.byte old mid new before (when_true _ _ there t.buffer)))
             t,
       )
 
@@ -191,32 +191,32 @@ module _ (key : List ℕ) (m n : Meaning) (b : Burst) (a : ℕ) (old mid : List 
 
 -- the same of a frame that is known to be a read
 module _ (key : List ℕ) (m n : Meaning) (gap : ℕ) (f : Sent) (b : Burst) (a : ℕ) (old mid : List ℕ) (read_is : f ≡ read b a (length old)) where
-  pub sends_answered : (new : List ℕ) (x : Reply) → Combined key (address n.kind n.state b a) mid new → Sends m gap f old (Ok x) n mid → Sends (scrambler key m) gap f old (Ok x) (scrambler key n) new
+  pub sends_answered : (new : List ℕ) (x : Reply) → Combined key (address n.config n.state b a) mid new → Sends m gap f old (Ok x) n mid → Sends (scrambler key m) gap f old (Ok x) (scrambler key n) new
   sends_answered new x is sends =
       let at_read = subst (λ g. Sends m gap g old (Ok x) n mid) read_is sends in
       subst (λ g. Sends (scrambler key m) gap g old (Ok x) (scrambler key n) new) (sym read_is)
-      record { judged = read_answered key m n b a old mid new (refused m.kind m.state gap (read b a (length old))) x is at_read.judged }
+      record { judged = read_answered key m n b a old mid new (refused m.config m.state gap (read b a (length old))) x is at_read.judged }
 
   pub sends_faulted : (r : Result Reply (Fault ℕ)) (d : Fault ℕ) → r ≡ Err d → Sends m gap f old (Err d) n mid → Sends (scrambler key m) gap f old r (scrambler key n) mid
   sends_faulted r d r_is sends =
       let at_read = subst (λ g. Sends m gap g old (Err d) n mid) read_is sends in
       rw (r_is, read_is)
-      record { judged = read_faulted key m n b a old mid (refused m.kind m.state gap (read b a (length old))) d at_read.judged }
+      record { judged = read_faulted key m n b a old mid (refused m.config m.state gap (read b a (length old))) d at_read.judged }
 
 -- ---- a write
 
 -- of the data, only the length decides whether it is refused
-refused_by_length : (k : Kind) (s : State) (gap : ℕ) (b : Burst) (a : ℕ) (plain mixed mask : List ℕ) → length mixed ≡ length plain → refused k s gap (write b a mixed mask) ≡ refused k s gap (write b a plain mask)
+refused_by_length : (k : Config) (s : State) (gap : ℕ) (b : Burst) (a : ℕ) (plain mixed mask : List ℕ) → length mixed ≡ length plain → refused k s gap (write b a mixed mask) ≡ refused k s gap (write b a plain mask)
 refused_by_length k s gap b a plain mixed mask long =
     ap (λ n. first ((not (takes s.phase false), WrongPhase) ∷ (ltb gap (least_gap k s), TooSoon) ∷ (bad_start k (write b a plain mask), BadStart) ∷ ((eqb n 0 || (eqb (n % 2) 1 || not (eqb (length mask) (size n)))), BadCount) ∷ (ltb k.clock.tcem (low_clocks (transfer.Write (write_latency s) n)), TooLong) ∷ (false, BadRegister) ∷ [])) long
 
-module _ (key : List ℕ) (m : Meaning) (b : Burst) (a : ℕ) (plain mixed mask : List ℕ) (is : Combined key (address m.kind m.state b a) plain mixed) where
+module _ (key : List ℕ) (m : Meaning) (b : Burst) (a : ℕ) (plain mixed mask : List ℕ) (is : Combined key (address m.config m.state b a) plain mixed) where
   stands_write : Stands key m (write b a mixed mask) (write b a plain mask)
   stands_write = record {
     leaves = λ free. ap (λ n. counted m.state (low_clocks (transfer.Write (write_latency m.state) n)) free.strobe) is.long;
     stores = λ x old.
-        ap (λ n. bit_xor (written (address m.kind m.state b a) mixed mask n x old) (key_at key x)) is.long
-        ∙ written_mixed key (address m.kind m.state b a) plain mixed mask is x old (length plain) (omega arith);
+        ap (λ n. bit_xor (written (address m.config m.state b a) mixed mask n x old) (key_at key x)) is.long
+        ∙ written_mixed key (address m.config m.state b a) plain mixed mask is x old (length plain) (omega arith);
     keeps = λ _ _. refl;
     answers = λ _. refl;
     placed = refl;
@@ -230,20 +230,20 @@ module _ (key : List ℕ) (m : Meaning) (b : Burst) (a : ℕ) (plain mixed mask 
   write_sends : (n : Meaning) (gap : ℕ) (old new : List ℕ) (r : Result Reply (Fault ℕ)) → Sends m gap (write b a mixed mask) old r n new → Sends (scrambler key m) gap (write b a plain mask) old r (scrambler key n) new
   write_sends n gap old new r below = record {
     judged =
-        write_judged n old new r (refused m.kind m.state gap (write b a plain mask))
-        (subst (λ o. Judged o m (write b a mixed mask) old r n new) (refused_by_length m.kind m.state gap b a plain mixed mask is.long) below.judged);
+        write_judged n old new r (refused m.config m.state gap (write b a plain mask))
+        (subst (λ o. Judged o m (write b a mixed mask) old r n new) (refused_by_length m.config m.state gap b a plain mixed mask is.long) below.judged);
   }
 
 -- the same of a frame that is known to be a write, whose data are combined in a copy
-pub sends_write : (key : List ℕ) (m n : Meaning) (gap : ℕ) (f : Sent) (b : Burst) (a : ℕ) (plain copy mixed mask old new : List ℕ) (r : Result Reply (Fault ℕ)) → f ≡ write b a plain mask → copy ≡ plain → Combined key (address m.kind m.state b a) copy mixed → Sends m gap (write b a mixed mask) old r n new → Sends (scrambler key m) gap f old r (scrambler key n) new
+pub sends_write : (key : List ℕ) (m n : Meaning) (gap : ℕ) (f : Sent) (b : Burst) (a : ℕ) (plain copy mixed mask old new : List ℕ) (r : Result Reply (Fault ℕ)) → f ≡ write b a plain mask → copy ≡ plain → Combined key (address m.config m.state b a) copy mixed → Sends m gap (write b a mixed mask) old r n new → Sends (scrambler key m) gap f old r (scrambler key n) new
 sends_write key m n gap f b a plain copy mixed mask old new r write_is copy_is is below =
-    let combined = subst (λ x. Combined key (address m.kind m.state b a) x mixed) copy_is is in
+    let combined = subst (λ x. Combined key (address m.config m.state b a) x mixed) copy_is is in
     rw write_is (write_sends key m b a plain mixed mask combined n gap old new r below)
 
 -- ---- a write that is too long for any chip
 
 -- CE# is never low for longer than 532 clocks
-most_in : (range : Range) (khz : ℕ) → khz ≤ 133000 → whole (tcem_ns range) khz ≤ 532
+most_in : (range : TemperatureRange) (khz : ℕ) → khz ≤ 133000 → whole (tcem_ns range) khz ≤ 532
 most_in Normal khz h = omega arith
 most_in Extended khz h = omega arith
 
@@ -270,14 +270,14 @@ here_first true r rest is = (r, refl)
 here_first false r rest is = cc
 
 -- whatever the tests before it say
-long_refused : (k : Kind) (s : State) (gap : ℕ) (b : Burst) (a : ℕ) (d mask : List ℕ) → 1052 < length d → (e : Refusal) × (refused k s gap (write b a d mask) ≡ Some e)
+long_refused : (k : Config) (s : State) (gap : ℕ) (b : Burst) (a : ℕ) (d mask : List ℕ) → 1052 < length d → (e : Refusal) × (refused k s gap (write b a d mask) ≡ Some e)
 long_refused k s gap b a d mask h =
     some_first _ _ _ (some_first _ _ _ (some_first _ _ _ (some_first _ _ _ (here_first _ _ _ (low_too_long k.clock (write_latency s) (length d) h)))))
 
 pub sends_long : (key : List ℕ) (m n : Meaning) (gap : ℕ) (f : Sent) (b : Burst) (a : ℕ) (d mask old new : List ℕ) (r : Result Reply (Fault ℕ)) → f ≡ write b a d mask → 1052 < length d → Sends m gap f old r n new → Sends (scrambler key m) gap f old r (scrambler key n) new
 sends_long key m n gap f b a d mask old new r write_is h below =
-    let (e, refused_is) = long_refused m.kind m.state gap b a d mask h in
-    let is : refused m.kind m.state gap f ≡ Some e = ap (refused m.kind m.state gap) write_is ∙ refused_is in
+    let (e, refused_is) = long_refused m.config m.state gap b a d mask h in
+    let is : refused m.config m.state gap f ≡ Some e = ap (refused m.config m.state gap) write_is ∙ refused_is in
     let (answer, same, buffer) = subst (λ o. Judged o m f old r n new) is below.judged in
     record {
       judged =
@@ -292,9 +292,9 @@ reset_above key m n r None (answer, (free, t)) = (
   answer,
   (
     record { strobe = free.strobe; byte = (scrambler key n).byte },
-    record { part = record { kind = t.part.kind; refreshes = t.part.refreshes }; state = t.state; bytes = λ a in_it. refl },
+    record { part = record { config = t.part.config; refreshes = t.part.refreshes }; state = t.state; bytes = λ a in_it. refl },
   ),
 )
 
 pub resets_above : (key : List ℕ) (pulse : ℕ) (m n : Meaning) (r : Result (Unit {0}) (Fault ℕ)) → Resets m pulse r n → Resets (scrambler key m) pulse r (scrambler key n)
-resets_above key pulse m n r below = record { judged = reset_above key m n r (reset_refused m.kind m.state pulse) below.judged }
+resets_above key pulse m n r below = record { judged = reset_above key m n r (reset_refused m.config m.state pulse) below.judged }

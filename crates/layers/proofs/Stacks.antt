@@ -11,7 +11,7 @@ use Rattle.chip.specs.Meaning.{Meaning, size, coverage}
 use Rattle.chip.specs.declared.parts.Reply.{Reply}
 use Rattle.chip.specs.declared.parts.Reply.TheVariants.{Done}
 use Rattle.chip.proofs.Bytes.{changed_by_writes_only}
-use Rattle.chip.proofs.Steps.{part_never_changes}
+use Rattle.chip.proofs.Steps.{config_never_changes}
 use Rattle.layers.specs.Scramblers.{key_at}
 use Rattle.layers.specs.Stacks.{stack, LastAt, WrittenComesBack}
 use Rattle.layers.specs.Windows.{shift}
@@ -41,9 +41,9 @@ taken m n f old new x (Some e) (answer, _, _) = cc
 taken m n f old new x None judged = judged
 
 -- a read that is answered gives the bytes before it, where they are held over it
-read_back : (m n : Meaning) (gap : ℕ) (c : Burst) (e l j x : ℕ) (old new : List ℕ) → Sends m gap (read c e l) old (Ok Done) n new → x < size m.kind → j < l → address m.kind m.state c e j ≡ x → holds m n (read c e l) x ≡ true → get_or new j 0 ≡ m.byte x
+read_back : (m n : Meaning) (gap : ℕ) (c : Burst) (e l j x : ℕ) (old new : List ℕ) → Sends m gap (read c e l) old (Ok Done) n new → x < size m.config → j < l → address m.config m.state c e j ≡ x → holds m n (read c e l) x ≡ true → get_or new j 0 ≡ m.byte x
 read_back m n gap c e l j x old new sends in_it inside here held =
-    let (free, t) = taken m n (read c e l) old new Done (refused m.kind m.state gap (read c e l)) sends.judged in
+    let (free, t) = taken m n (read c e l) old new Done (refused m.config m.state gap (read c e l)) sends.judged in
     let there = strobe_there n.state.strobe Done Done _ t.answer in
     (when_true _ _ there t.buffer).1 j inside
     ∙ ap n.byte here
@@ -51,26 +51,26 @@ read_back m n gap c e l j x old new sends in_it inside here held =
     ∙ cond-true _ _ _ held
 
 -- a write that is answered leaves the last unmasked byte at an address that is held over it
-write_lies : (m n : Meaning) (gap : ℕ) (b : Burst) (a i x : ℕ) (d k old new : List ℕ) → Sends m gap (write b a d k) old (Ok Done) n new → x < size m.kind → LastAt (address m.kind m.state b a) d k i → address m.kind m.state b a i ≡ x → holds m n (write b a d k) x ≡ true → (n.byte x ≡ get_or d i 0) × (n.kind ≡ m.kind)
+write_lies : (m n : Meaning) (gap : ℕ) (b : Burst) (a i x : ℕ) (d k old new : List ℕ) → Sends m gap (write b a d k) old (Ok Done) n new → x < size m.config → LastAt (address m.config m.state b a) d k i → address m.config m.state b a i ≡ x → holds m n (write b a d k) x ≡ true → (n.byte x ≡ get_or d i 0) × (n.config ≡ m.config)
 write_lies m n gap b a i x d k old new sends in_it is here held =
-    let (free, t) = taken m n (write b a d k) old new Done (refused m.kind m.state gap (write b a d k)) sends.judged in (
+    let (free, t) = taken m n (write b a d k) old new Done (refused m.config m.state gap (write b a d k)) sends.judged in (
       t.bytes x in_it
           ∙ cond-true _ _ _ held
-          ∙ written_last (address m.kind m.state b a) d k i x (m.byte x) here is.unmasked (length d) is.inside (λ j low high plain at_x. is.last j low high plain (at_x ∙ sym here)),
-      t.part.kind,
+          ∙ written_last (address m.config m.state b a) d k i x (m.byte x) here is.unmasked (length d) is.inside (λ j low high plain at_x. is.last j low high plain (at_x ∙ sym here)),
+      t.part.config,
     )
 
 pub written_comes_back : WrittenComesBack
 written_comes_back hidden key m n gap b a i x d k old new law sends is here held =
     let covered = (and_parts _ _ (and_parts _ _ held).1).0 in
-    let in_it : x < size (stack hidden key m).kind = inside_window hidden m law (coverage m.state) x covered in
-    let (lies, kind) = write_lies (stack hidden key m) (stack hidden key n) gap b a i x d k old new sends in_it is here held in
+    let in_it : x < size (stack hidden key m).config = inside_window hidden m law (coverage m.state) x covered in
+    let (lies, config) = write_lies (stack hidden key m) (stack hidden key n) gap b a i x d k old new sends in_it is here held in
     record {
       above = lies;
-      below = sym (twice (n.byte (x + shift hidden n.kind)) (key_at key x)) ∙ ap (λ y. bit_xor y (key_at key x)) lies;
+      below = sym (twice (n.byte (x + shift hidden n.config)) (key_at key x)) ∙ ap (λ y. bit_xor y (key_at key x)) lies;
       back = λ p q steps gap' c e l j old' new' run spared sends' inside here' held'.
-          let in_it' : x < size (stack hidden key n).kind = subst (λ k. x < size k) (sym kind) in_it in
-          read_back p q gap' c e l j x old' new' sends' (subst (λ k. x < size k) (sym (part_never_changes (stack hidden key n) p steps run).kind) in_it') inside here' held'
+          let in_it' : x < size (stack hidden key n).config = subst (λ k. x < size k) (sym config) in_it in
+          read_back p q gap' c e l j x old' new' sends' (subst (λ k. x < size k) (sym (config_never_changes (stack hidden key n) p steps run).config) in_it') inside here' held'
           ∙ changed_by_writes_only (stack hidden key n) p steps x run in_it' spared
           ∙ lies;
     }

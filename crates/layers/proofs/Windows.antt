@@ -4,7 +4,7 @@ use Rattle.std.proofs.Common.{Bor, sym, ap, subst, ◌∙◌, ⊎_elim, arith}
 use Rattle.std.proofs.lemmas.Bool.{cases_lt, or_parts, or_right, leb-false, le-leb, lt-leb}
 use Rattle.std.proofs.lemmas.Bool.Decides.{nat_tests}
 use Rattle.std.proofs.lemmas.Result.{err_from_is_err_and}
-use Rattle.frame.specs.Bursts.{at}
+use Rattle.frame.specs.Bursts.{burst_address}
 use Rattle.frame.specs.Pages.{page}
 use Rattle.frame.specs.declared.burst.Block.TheVariants.{Bytes16, Bytes32, Bytes64, Page}
 use Rattle.frame.specs.declared.burst.Burst.{Burst}
@@ -16,24 +16,24 @@ use Rattle.fault.specs.declared.Fault.{Fault}
 use Rattle.fault.specs.declared.Refusal.{Refusal}
 use Rattle.fault.specs.declared.Refusal.TheVariants.{WrongPhase, TooSoon, BadStart, BadCount, TooLong, BadRegister}
 use Rattle.register.specs.declared.fields.Coverage.{Coverage}
-use Rattle.chip.specs.Frames.{Sent, read, write, register_read, register_write, global_reset, sent, place, wakes, takes, least_gap, bad_start, bad_count, too_long, first, refused, FreeByFrame, after, address, written, stored, holds, answered, reply, answer_by, Filled, SamePart, Taken, Judged, Sends}
+use Rattle.chip.specs.Frames.{Sent, read, write, register_read, register_write, global_reset, sent, place, wakes, takes, least_gap, bad_start, bad_count, too_long, first, refused, FreeByFrame, after, address, written, stored, holds, answered, reply, answer_by, Filled, SameConfig, Taken, Judged, Sends}
 use Rattle.mask.specs.Masks.{masked}
 use Rattle.register.specs.Registers.{on_wire}
 use Rattle.chip.specs.Meaning.{Meaning, Lawful, size, largest_size, refreshed, strobe_at}
 use Rattle.chip.specs.Resets.{reset_refused, ResetJudged, Resets}
 use Rattle.chip.specs.declared.parts.Frame.{Frame}
 use Rattle.chip.specs.declared.parts.Frame.TheVariants as frame
-use Rattle.chip.specs.declared.parts.Kind.{Kind}
+use Rattle.chip.specs.declared.parts.Config.{Config}
 use Rattle.chip.specs.declared.parts.Reply.{Reply}
 use Rattle.chip.specs.declared.parts.State.{State}
 use Rattle.chip.proofs.Tests.{good_start}
 use Rattle.layers.specs.LawfulWindows.{parts}
-use Rattle.layers.specs.Windows.{shift, window_kind, window, placed, moved, lowered, SentBelow}
+use Rattle.layers.specs.Windows.{shift, window_config, window, placed, moved, lowered, SentBelow}
 
 -- ---- numbers
 
 -- the burst of a start that is moved by whole pages is the burst, moved
-address_moved : (m : Make) (b : Burst) (s q i : ℕ) → at m b (s + q * page m) i ≡ at m b s i + q * page m
+address_moved : (m : Make) (b : Burst) (s q i : ℕ) → burst_address m b (s + q * page m) i ≡ burst_address m b s i + q * page m
 address_moved make.A Linear s q i = omega arith
 address_moved make.S Linear s q i = omega arith
 address_moved make.A (Wrapped Bytes16) s q i = omega arith
@@ -71,27 +71,27 @@ even_pages make.A q = omega arith
 even_pages make.S q = omega arith
 
 -- a range of addresses, moved
-range_moved : (h : ℕ) (m : Meaning) (c : Coverage) (from count : ℕ) → Lawful m → ((a : ℕ) → moved (shift h m.kind) from ≤ a → a < moved (shift h m.kind) from + count → m.refreshes c a ≡ true) → (a : ℕ) → from ≤ a → a < from + count → m.refreshes c (a + shift h m.kind) ≡ true
+range_moved : (h : ℕ) (m : Meaning) (c : Coverage) (from count : ℕ) → Lawful m → ((a : ℕ) → moved (shift h m.config) from ≤ a → a < moved (shift h m.config) from + count → m.refreshes c a ≡ true) → (a : ℕ) → from ≤ a → a < from + count → m.refreshes c (a + shift h m.config) ≡ true
 range_moved h m c from count law below a low high =
     ⊎_elim
-    (λ fits. below (a + shift h m.kind) (omega arith) (omega arith))
+    (λ fits. below (a + shift h m.config) (omega arith) (omega arith))
     (λ past.
     let first = law.inside c (2 ^ 32 - 1) (below (2 ^ 32 - 1) (omega arith) (omega arith)) in
     absurd (omega (arith, law.most)))
-    (cases_lt (from + shift h m.kind) (2 ^ 32))
+    (cases_lt (from + shift h m.config) (2 ^ 32))
 
-range_back : (h : ℕ) (m : Meaning) (c : Coverage) (from count : ℕ) → Lawful m → ((a : ℕ) → from ≤ a → a < from + count → m.refreshes c (a + shift h m.kind) ≡ true) → (a : ℕ) → moved (shift h m.kind) from ≤ a → a < moved (shift h m.kind) from + count → m.refreshes c a ≡ true
+range_back : (h : ℕ) (m : Meaning) (c : Coverage) (from count : ℕ) → Lawful m → ((a : ℕ) → from ≤ a → a < from + count → m.refreshes c (a + shift h m.config) ≡ true) → (a : ℕ) → moved (shift h m.config) from ≤ a → a < moved (shift h m.config) from + count → m.refreshes c a ≡ true
 range_back h m c from count law above a low high =
     ⊎_elim
     (λ fits.
-    let back : a - shift h m.kind + shift h m.kind ≡ a = omega arith in
-    subst (λ x. m.refreshes c x ≡ true) back (above (a - shift h m.kind) (omega arith) (omega arith)))
+    let back : a - shift h m.config + shift h m.config ≡ a = omega arith in
+    subst (λ x. m.refreshes c x ≡ true) back (above (a - shift h m.config) (omega arith) (omega arith)))
     (λ past.
-    let first = law.inside c (from + shift h m.kind) (above from (omega arith) (omega arith)) in
+    let first = law.inside c (from + shift h m.config) (above from (omega arith) (omega arith)) in
     absurd (omega (arith, law.most)))
-    (cases_lt (from + shift h m.kind) (2 ^ 32))
+    (cases_lt (from + shift h m.config) (2 ^ 32))
 
-pub refreshed_moved : (h : ℕ) (m : Meaning) (c : Coverage) (from count low : ℕ) (r : Bool) → Lawful m → low ≡ moved (shift h m.kind) from → Decides r ((a : ℕ) → low ≤ a → a < low + count → m.refreshes c a ≡ true) → Decides r ((a : ℕ) → from ≤ a → a < from + count → m.refreshes c (a + shift h m.kind) ≡ true)
+pub refreshed_moved : (h : ℕ) (m : Meaning) (c : Coverage) (from count low : ℕ) (r : Bool) → Lawful m → low ≡ moved (shift h m.config) from → Decides r ((a : ℕ) → low ≤ a → a < low + count → m.refreshes c a ≡ true) → Decides r ((a : ℕ) → from ≤ a → a < from + count → m.refreshes c (a + shift h m.config) ≡ true)
 refreshed_moved h m c from count low r law is told =
     let at = subst (λ l. Decides r ((a : ℕ) → l ≤ a → a < l + count → m.refreshes c a ≡ true)) is told in
     (λ yes. range_moved h m c from count law (at.0 yes), λ all. at.1 (range_back h m c from count law all))
@@ -116,12 +116,12 @@ when_both : {P Q P' Q' : Type 0} (b : Bool) → MatchBool b P Q → (P → P') �
 when_both true w f g = f w
 when_both false w f g = g w
 
-module _ (h : ℕ) (k : Kind) (s : State) (some : h < k.pages) (most : size k ≤ largest_size) where
-  start_below : (a : ℕ) → (a % 2 == 1 || nat_le (size (window_kind h k)) a) ≡ (moved (shift h k) a % 2 == 1 || nat_le (size k) (moved (shift h k) a))
-  start_below a = start_same (shift h k) (size k) (size (window_kind h k)) a (even_pages k.make h) (parts h k some) most
+module _ (h : ℕ) (k : Config) (s : State) (some : h < k.pages) (most : size k ≤ largest_size) where
+  start_below : (a : ℕ) → (a % 2 == 1 || nat_le (size (window_config h k)) a) ≡ (moved (shift h k) a % 2 == 1 || nat_le (size k) (moved (shift h k) a))
+  start_below a = start_same (shift h k) (size k) (size (window_config h k)) a (even_pages k.make h) (parts h k some) most
 
   -- a frame is refused as the frame below is
-  pub refused_below : (gap : ℕ) (f : Sent) → refused (window_kind h k) s gap f ≡ refused k s gap (lowered (shift h k) f)
+  pub refused_below : (gap : ℕ) (f : Sent) → refused (window_config h k) s gap f ≡ refused k s gap (lowered (shift h k) f)
   refused_below gap (read b a n) =
       ap (λ t. first ((not (takes s.phase false), WrongPhase) ∷ (nat_lt gap (least_gap k s), TooSoon) ∷ (t, BadStart) ∷ (bad_count (read b a n), BadCount) ∷ (too_long k s (read b a n), TooLong) ∷ (false, BadRegister) ∷ [])) (start_below a)
   refused_below gap (write b a d m) =
@@ -131,22 +131,22 @@ module _ (h : ℕ) (k : Kind) (s : State) (some : h < k.pages) (most : size k �
   refused_below gap global_reset = refl
 
   -- a start that is taken lies in the window, and goes down unheld
-  in_window : (a : ℕ) → (a % 2 == 1 || nat_le (size (window_kind h k)) a) ≡ false → moved (shift h k) a ≡ a + shift h k
+  in_window : (a : ℕ) → (a % 2 == 1 || nat_le (size (window_config h k)) a) ≡ false → moved (shift h k) a ≡ a + shift h k
   in_window a e = let low = leb-false _ _ (or_parts (a % 2 == 1) _ e).1 in omega (arith, parts h k some)
 
-  address_below : (b : Burst) (a i : ℕ) → (a % 2 == 1 || nat_le (size (window_kind h k)) a) ≡ false → address k s b (moved (shift h k) a) i ≡ address (window_kind h k) s b a i + shift h k
+  address_below : (b : Burst) (a i : ℕ) → (a % 2 == 1 || nat_le (size (window_config h k)) a) ≡ false → address k s b (moved (shift h k) a) i ≡ address (window_config h k) s b a i + shift h k
   address_below b a i e =
-      ap (λ x. at k.make (on_wire b s.mr8) x i) (in_window a e) ∙ address_moved k.make (on_wire b s.mr8) a h i
+      ap (λ x. burst_address k.make (on_wire b s.mr8) x i) (in_window a e) ∙ address_moved k.make (on_wire b s.mr8) a h i
 
   -- a write goes through the moved addresses as through the addresses
-  stored_below : (f : Sent) (x old : ℕ) → bad_start (window_kind h k) f ≡ false → stored k s (lowered (shift h k) f) (x + shift h k) old ≡ stored (window_kind h k) s f x old
+  stored_below : (f : Sent) (x old : ℕ) → bad_start (window_config h k) f ≡ false → stored k s (lowered (shift h k) f) (x + shift h k) old ≡ stored (window_config h k) s f x old
   stored_below (read b a n) x old e = refl
   stored_below (write b a d m) x old e = written_moved (shift h k) _ _ d m (length d) x old (λ i. address_below b a i e)
   stored_below (register_read n) x old e = refl
   stored_below (register_write n v) x old e = refl
   stored_below global_reset x old e = refl
 
-  filled_below : (there : Bool) (f : Sent) (byte : ℕ → ℕ) (old new : List ℕ) → bad_start (window_kind h k) f ≡ false → Filled k s there (lowered (shift h k) f) byte old new → Filled (window_kind h k) s there f (λ a. byte (a + shift h k)) old new
+  filled_below : (there : Bool) (f : Sent) (byte : ℕ → ℕ) (old new : List ℕ) → bad_start (window_config h k) f ≡ false → Filled k s there (lowered (shift h k) f) byte old new → Filled (window_config h k) s there f (λ a. byte (a + shift h k)) old new
   filled_below there (read b a n) byte old new e full =
       when_both there full (λ p. (p.0, λ i in_it. p.1 i in_it ∙ ap byte (address_below b a i e))) (λ p. p)
   filled_below there (write b a d m) byte old new e full = full
@@ -154,18 +154,18 @@ module _ (h : ℕ) (k : Kind) (s : State) (some : h < k.pages) (most : size k �
   filled_below there (register_write n v) byte old new e full = full
   filled_below there global_reset byte old new e full = full
 
-  reply_below : (f : Sent) → reply k s (lowered (shift h k) f) ≡ reply (window_kind h k) s f
+  reply_below : (f : Sent) → reply k s (lowered (shift h k) f) ≡ reply (window_config h k) s f
   reply_below (read b a n) = refl
   reply_below (write b a d m) = refl
   reply_below (register_read n) = refl
   reply_below (register_write n v) = refl
   reply_below global_reset = refl
 
-  answer_below : (there : Bool) (f : Sent) → placed (place f) (answer_by k s there (lowered (shift h k) f)) ≡ answer_by (window_kind h k) s there f
+  answer_below : (there : Bool) (f : Sent) → placed (place f) (answer_by k s there (lowered (shift h k) f)) ≡ answer_by (window_config h k) s there f
   answer_below true f = ap (λ x. Ok x) (reply_below f)
   answer_below false f = refl
 
-after_below : (h : ℕ) (k : Kind) (s : State) (f : Sent) (free : FreeByFrame) → after k s (lowered (shift h k) f) free ≡ after (window_kind h k) s f (free_above (shift h k) free)
+after_below : (h : ℕ) (k : Config) (s : State) (f : Sent) (free : FreeByFrame) → after k s (lowered (shift h k) f) free ≡ after (window_config h k) s f (free_above (shift h k) free)
 unfolding free_above
 after_below h k s (read b a n) free = refl
 after_below h k s (write b a d m) free = refl
@@ -187,52 +187,52 @@ answered_below h by n (register_read r) = refl
 answered_below h by n (register_write r v) = refl
 answered_below h by n global_reset = refl
 
-holds_below : (h : ℕ) (m n : Meaning) (f : Sent) (x : ℕ) → n.kind ≡ m.kind → holds m n (lowered (shift h m.kind) f) (x + shift h m.kind) ≡ holds (window h m) (window h n) f x
+holds_below : (h : ℕ) (m n : Meaning) (f : Sent) (x : ℕ) → n.config ≡ m.config → holds m n (lowered (shift h m.config) f) (x + shift h m.config) ≡ holds (window h m) (window h n) f x
 holds_below h m n f x same =
-    ap (λ w. not w && (strobe_at n x && (refreshed m (x + shift h m.kind) && refreshed n (x + shift h m.kind)))) (wakes_below (shift h m.kind) f)
-    ∙ ap (λ k. not (wakes f) && (strobe_at n x && (refreshed m (x + shift h m.kind) && refreshed n (x + shift h k)))) (sym same)
+    ap (λ w. not w && (strobe_at n x && (refreshed m (x + shift h m.config) && refreshed n (x + shift h m.config)))) (wakes_below (shift h m.config) f)
+    ∙ ap (λ k. not (wakes f) && (strobe_at n x && (refreshed m (x + shift h m.config) && refreshed n (x + shift h k)))) (sym same)
 
 -- what never changes below never changes in the window
-part_above : (h : ℕ) (m n : Meaning) → SamePart m n → SamePart (window h m) (window h n)
+part_above : (h : ℕ) (m n : Meaning) → SameConfig m n → SameConfig (window h m) (window h n)
 part_above h m n part = record {
-  kind = ap (window_kind h) part.kind;
-  refreshes = λ i c a. part.refreshes i c (a + shift h (part.kind i));
+  config = ap (window_config h) part.config;
+  refreshes = λ i c a. part.refreshes i c (a + shift h (part.config i));
 }
 
 -- a frame that is taken below is taken by the window
-taken_above : (h : ℕ) (m n : Meaning) (f : Sent) (free : FreeByFrame) (old new : List ℕ) (r : Result Reply (Fault ℕ)) → h < m.kind.pages → Lawful m → bad_start (window_kind h m.kind) f ≡ false → Taken m (lowered (shift h m.kind) f) free old r n new → Taken (window h m) f (free_above (shift h m.kind) free) old (placed (place f) r) (window h n) new
+taken_above : (h : ℕ) (m n : Meaning) (f : Sent) (free : FreeByFrame) (old new : List ℕ) (r : Result Reply (Fault ℕ)) → h < m.config.pages → Lawful m → bad_start (window_config h m.config) f ≡ false → Taken m (lowered (shift h m.config) f) free old r n new → Taken (window h m) f (free_above (shift h m.config) free) old (placed (place f) r) (window h n) new
 unfolding free_above
 taken_above h m n f free old new r some law good t =
-    let by = shift h m.kind in
-    let same = t.part.kind in
+    let by = shift h m.config in
+    let same = t.part.config in
     record {
       allowed = record { strobe = t.allowed.strobe; latency = t.allowed.latency };
       part = part_above h m n t.part;
-      state = t.state ∙ after_below h m.kind m.state f free;
+      state = t.state ∙ after_below h m.config m.state f free;
       bytes = λ a in_it.
           ap (λ k. n.byte (a + shift h k)) same
-          ∙ t.bytes (a + by) (omega (arith, parts h m.kind some))
-          ∙ (λ i. cond (holds_below h m n f a same i) (stored_below h m.kind m.state some law.most f a (m.byte (a + by)) good i) (free.byte (a + by)));
+          ∙ t.bytes (a + by) (omega (arith, parts h m.config some))
+          ∙ (λ i. cond (holds_below h m n f a same i) (stored_below h m.config m.state some law.most f a (m.byte (a + by)) good i) (free.byte (a + by)));
       answer =
           ap (placed (place f)) t.answer
-          ∙ answer_below h m.kind m.state some law.most (answered n (lowered by f)) f
-          ∙ ap (λ there. answer_by (window_kind h m.kind) m.state there f) (answered_below h by n f);
+          ∙ answer_below h m.config m.state some law.most (answered n (lowered by f)) f
+          ∙ ap (λ there. answer_by (window_config h m.config) m.state there f) (answered_below h by n f);
       buffer =
-          subst (λ k. Filled (window_kind h m.kind) m.state (answered (window h n) f) f (λ a. n.byte (a + shift h k)) old new) (sym same)
-          (subst (λ there. Filled (window_kind h m.kind) m.state there f (λ a. n.byte (a + by)) old new) (answered_below h by n f)
-          (filled_below h m.kind m.state some law.most (answered n (lowered by f)) f n.byte old new good t.buffer));
+          subst (λ k. Filled (window_config h m.config) m.state (answered (window h n) f) f (λ a. n.byte (a + shift h k)) old new) (sym same)
+          (subst (λ there. Filled (window_config h m.config) m.state there f (λ a. n.byte (a + by)) old new) (answered_below h by n f)
+          (filled_below h m.config m.state some law.most (answered n (lowered by f)) f n.byte old new good t.buffer));
     }
 
 -- a frame that is judged below is judged so by the window
-judged_above : (h : ℕ) (m n : Meaning) (f : Sent) (old new : List ℕ) (r : Result Reply (Fault ℕ)) (o : Option Refusal) → h < m.kind.pages → Lawful m → (o ≡ None → bad_start (window_kind h m.kind) f ≡ false) → Judged o m (lowered (shift h m.kind) f) old r n new → Judged o (window h m) f old (placed (place f) r) (window h n) new
+judged_above : (h : ℕ) (m n : Meaning) (f : Sent) (old new : List ℕ) (r : Result Reply (Fault ℕ)) (o : Option Refusal) → h < m.config.pages → Lawful m → (o ≡ None → bad_start (window_config h m.config) f ≡ false) → Judged o m (lowered (shift h m.config) f) old r n new → Judged o (window h m) f old (placed (place f) r) (window h n) new
 judged_above h m n f old new r (Some e) some law good (a, b, c) = (ap (placed (place f)) a, ap (window h) b, c)
-judged_above h m n f old new r None some law good (free, t) = (free_above (shift h m.kind) free, taken_above h m n f free old new r some law (good refl) t)
+judged_above h m n f old new r None some law good (free, t) = (free_above (shift h m.config) free, taken_above h m n f free old new r some law (good refl) t)
 
-sends_above : (h gap : ℕ) (m n : Meaning) (f : Sent) (old new : List ℕ) (r : Result Reply (Fault ℕ)) → h < m.kind.pages → Lawful m → Sends m gap (lowered (shift h m.kind) f) old r n new → Sends (window h m) gap f old (placed (place f) r) (window h n) new
+sends_above : (h gap : ℕ) (m n : Meaning) (f : Sent) (old new : List ℕ) (r : Result Reply (Fault ℕ)) → h < m.config.pages → Lawful m → Sends m gap (lowered (shift h m.config) f) old r n new → Sends (window h m) gap f old (placed (place f) r) (window h n) new
 sends_above h gap m n f old new r some law below = record {
   judged =
-      judged_above h m n f old new r (refused (window_kind h m.kind) m.state gap f) some law (good_start (window_kind h m.kind) m.state gap f)
-      (subst (λ o. Judged o m (lowered (shift h m.kind) f) old r n new) (sym (refused_below h m.kind m.state some law.most gap f)) below.judged);
+      judged_above h m n f old new r (refused (window_config h m.config) m.state gap f) some law (good_start (window_config h m.config) m.state gap f)
+      (subst (λ o. Judged o m (lowered (shift h m.config) f) old r n new) (sym (refused_below h m.config m.state some law.most gap f)) below.judged);
 }
 
 -- ---- the frame that goes down, and the answer that comes back
@@ -257,14 +257,14 @@ placed_by Q p (Ok x) back is told = told
 placed_by Q p (Err d) back is told =
     let (e, back_is, q) = err_from_is_err_and back told in back_is ∙ ap (λ x. Err x) (is d e q)
 
-pub sent_below : (h gap : ℕ) (m n : Meaning) (f below : Sent) (old new : List ℕ) (r back : Result Reply (Fault ℕ)) → below ≡ lowered (shift h m.kind) f → back ≡ placed (place f) r → Sends m gap below old r n new → SentBelow h m gap f old back n new
+pub sent_below : (h gap : ℕ) (m n : Meaning) (f below : Sent) (old new : List ℕ) (r back : Result Reply (Fault ℕ)) → below ≡ lowered (shift h m.config) f → back ≡ placed (place f) r → Sends m gap below old r n new → SentBelow h m gap f old back n new
 sent_below h gap m n f below old new r back below_is back_is sends = record {
   answer = r;
   sends = subst (λ g. Sends m gap g old r n new) below_is sends;
   comes_back = back_is;
 }
 
-pub sends_down : (h gap : ℕ) (m n : Meaning) (f : Sent) (old new : List ℕ) (back : Result Reply (Fault ℕ)) → h < m.kind.pages → Lawful m → SentBelow h m gap f old back n new → Sends (window h m) gap f old back (window h n) new
+pub sends_down : (h gap : ℕ) (m n : Meaning) (f : Sent) (old new : List ℕ) (back : Result Reply (Fault ℕ)) → h < m.config.pages → Lawful m → SentBelow h m gap f old back n new → Sends (window h m) gap f old back (window h n) new
 sends_down h gap m n f old new back some law below =
     rw below.comes_back (sends_above h gap m n f old new below.answer some law below.sends)
 
@@ -281,4 +281,4 @@ reset_above h m n r None (answer, (free, t)) = (
 )
 
 pub resets_above : (h pulse : ℕ) (m n : Meaning) (r : Result (Unit {0}) (Fault ℕ)) → Resets m pulse r n → Resets (window h m) pulse r (window h n)
-resets_above h pulse m n r below = record { judged = reset_above h m n r (reset_refused m.kind m.state pulse) below.judged }
+resets_above h pulse m n r below = record { judged = reset_above h m n r (reset_refused m.config m.state pulse) below.judged }

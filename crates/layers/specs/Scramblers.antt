@@ -9,7 +9,7 @@ key_at key a = slice_index key (a % 16)
 -- the memory is the one below, each byte combined by exclusive or with the key byte of its address; all else is as below
 abbrev pub scrambler : List ℕ → Meaning → Meaning
 scrambler key m = record {
-  kind = m.kind;
+  config = m.config;
   refreshes = m.refreshes;
   state = m.state;
   byte = λ a. bit_xor (m.byte a) (key_at key a);

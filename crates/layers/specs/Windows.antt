@@ -5,23 +5,23 @@ use Rattle.fault.specs.declared.Fault.{Fault}
 use Rattle.frame.specs.Pages.{page}
 use Rattle.chip.specs.Frames.{Sent, read, write, register_read, register_write, global_reset, place, Sends}
 use Rattle.chip.specs.Meaning.{Meaning}
-use Rattle.chip.specs.declared.parts.Kind.{Kind}
+use Rattle.chip.specs.declared.parts.Config.{Config}
 use Rattle.chip.specs.declared.parts.Reply.{Reply}
 
 -- how far the addresses are moved
-abbrev pub shift : ℕ → Kind → ℕ
+abbrev pub shift : ℕ → Config → ℕ
 shift hidden k = hidden * page k.make
 
-abbrev pub window_kind : ℕ → Kind → Kind
-window_kind hidden k = record { make = k.make; pages = k.pages - hidden; clock = k.clock }
+abbrev pub window_config : ℕ → Config → Config
+window_config hidden k = record { make = k.make; pages = k.pages - hidden; clock = k.clock }
 
 -- byte a is the byte below at a + shift, refreshed as that is; all else is as below
 abbrev pub window : ℕ → Meaning → Meaning
 window hidden m = record {
-  kind = window_kind hidden m.kind;
-  refreshes = λ c a. m.refreshes c (a + shift hidden m.kind);
+  config = window_config hidden m.config;
+  refreshes = λ c a. m.refreshes c (a + shift hidden m.config);
   state = m.state;
-  byte = λ a. m.byte (a + shift hidden m.kind);
+  byte = λ a. m.byte (a + shift hidden m.config);
 }
 
 -- a fault names the place as it was called on the layer
@@ -43,5 +43,5 @@ lowered by global_reset = global_reset
 -- the frame was sent to the chip below with its start moved, and a fault came back with the place as it was called
 pub record SentBelow (hidden : ℕ) (m : Meaning) (gap : ℕ) (f : Sent) (old : List ℕ) (r : Result Reply (Fault ℕ)) (n : Meaning) (new : List ℕ) : Type 0 where
   pub answer : Result Reply (Fault ℕ)
-  pub sends : Sends m gap (lowered (shift hidden m.kind) f) old answer n new
+  pub sends : Sends m gap (lowered (shift hidden m.config) f) old answer n new
   pub comes_back : r ≡ placed (place f) answer

@@ -4,7 +4,7 @@ ghost use Rattle.chip.specs.Frames.{address};
 ghost use Rattle.layers.specs.Scramblers.{scrambler, key_at, Combined};
 ghost use Rattle.std.proofs.Common.{rules};
 
-use chip::{Chip, Frame, Kind, Reply, State};
+use chip::{Chip, Config, Frame, Reply, State};
 use fault::Fault;
 use frame::Burst;
 use register::{Coverage, on_wire};
@@ -44,9 +44,9 @@ impl<C: Chip> Scrambler<C> {
     // Combines each byte of a burst with the key byte of its own address. The chip goes by its MR8. Burst
     // and start stay apart, as the cases of a frame have them.
     fn combine(&self, burst: Burst, start: u32, bytes: &mut [u8])
-        ensures { Combined self.now.key (address (C.Chip.meaning self.now.chip).kind (C.Chip.meaning self.now.chip).state burst start) bytes.old bytes.new }
+        ensures { Combined self.now.key (address (C.Chip.meaning self.now.chip).config (C.Chip.meaning self.now.chip).state burst start) bytes.old bytes.new }
     {
-        let make = self.chip.kind().make;
+        let make = self.chip.config().make;
         let burst = on_wire(burst, self.chip.state().mr8);
         for (i, byte) in bytes.iter_mut().enumerate() {
             *byte ^= self.key_byte(burst.address(make, start, i));
@@ -59,8 +59,8 @@ impl<C: Chip> Chip for Scrambler<C> {
 
     ghost lawful = { Prim.search rules };
 
-    fn kind(&self) -> Kind {
-        self.chip.kind()
+    fn config(&self) -> Config {
+        self.chip.config()
     }
 
     fn state(&self) -> State {

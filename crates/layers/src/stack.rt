@@ -19,7 +19,7 @@ impl<C: Chip> Scrambler<Window<C>> {
         hidden: u32,
         key: [u8; 16],
     ) -> Result<Scrambler<Window<C>>, Returned<C>>
-        ensures { MatchResult result (λ s. (hidden < (C.Chip.meaning chip).kind.pages) × (s.chip.chip ≡ chip) × (s.chip.hidden ≡ hidden) × (s.key ≡ key)) (λ e. ((C.Chip.meaning chip).kind.pages ≤ hidden) × (e.fault ≡ fault_at WindowTooLarge 0) × (e.value ≡ chip)) }
+        ensures { MatchResult result (λ s. (hidden < (C.Chip.meaning chip).config.pages) × (s.chip.chip ≡ chip) × (s.chip.hidden ≡ hidden) × (s.key ≡ key)) (λ e. ((C.Chip.meaning chip).config.pages ≤ hidden) × (e.fault ≡ fault_at WindowTooLarge 0) × (e.value ≡ chip)) }
     {
         Window::new(chip, hidden).map(|window| Scrambler::new(window, key))
     }
@@ -28,7 +28,7 @@ impl<C: Chip> Scrambler<Window<C>> {
     // byte of the address, with which it is combined. What is written through the stack comes back
     // through it.
     pub fn lies_at(&self, address: u32) -> (u32, u8)
-        ensures value { result ≡ (moved (shift self.now.chip.hidden (C.Chip.meaning self.now.chip.chip).kind) address, key_at self.now.key address) }
+        ensures value { result ≡ (moved (shift self.now.chip.hidden (C.Chip.meaning self.now.chip.chip).config) address, key_at self.now.key address) }
         ensures comes_back { WrittenComesBack }
     {
         (

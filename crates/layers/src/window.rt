@@ -7,7 +7,7 @@ ghost use Rattle.chip.specs.Resets.{Resets};
 ghost use Rattle.layers.specs.Windows.{window, shift, SentBelow};
 ghost use Rattle.layers.specs.LawfulWindows.{lawful_window};
 
-use chip::{Chip, Frame, Kind, Reply, State};
+use chip::{Chip, Config, Frame, Reply, State};
 use fault::{Fault, Refusal, Returned};
 use register::Coverage;
 
@@ -15,15 +15,15 @@ use register::Coverage;
 pub struct Window<C: Chip> {
     chip: C,
     hidden: u32,
-    ghost some: { hidden < (C.Chip.meaning chip).kind.pages },
+    ghost some: { hidden < (C.Chip.meaning chip).config.pages },
 }
 
 impl<C: Chip> Window<C> {
     // A window that hides the first `hidden` pages; 20 where no page would be left to see.
     pub fn new(chip: C, hidden: u32) -> Result<Window<C>, Returned<C>>
-        ensures { MatchResult result (λ w. (hidden < (C.Chip.meaning chip).kind.pages) × (w.chip ≡ chip) × (w.hidden ≡ hidden)) (λ e. ((C.Chip.meaning chip).kind.pages ≤ hidden) × (e.fault ≡ fault_at WindowTooLarge 0) × (e.value ≡ chip)) }
+        ensures { MatchResult result (λ w. (hidden < (C.Chip.meaning chip).config.pages) × (w.chip ≡ chip) × (w.hidden ≡ hidden)) (λ e. ((C.Chip.meaning chip).config.pages ≤ hidden) × (e.fault ≡ fault_at WindowTooLarge 0) × (e.value ≡ chip)) }
     {
-        if hidden >= chip.kind().pages {
+        if hidden >= chip.config().pages {
             return Err(Returned {
                 fault: Refusal::WindowTooLarge.at(0),
                 value: chip,
@@ -41,9 +41,9 @@ impl<C: Chip> Window<C> {
 
     // How far the addresses are moved.
     pub(crate) fn shift(&self) -> u32
-        ensures { result ≡ shift self.now.hidden (C.Chip.meaning self.now.chip).kind }
+        ensures { result ≡ shift self.now.hidden (C.Chip.meaning self.now.chip).config }
     {
-        self.hidden * self.chip.kind().make.page()
+        self.hidden * self.chip.config().make.page()
     }
 }
 
@@ -52,11 +52,11 @@ impl<C: Chip> Chip for Window<C> {
 
     ghost lawful = { λ w. lawful_window _ _ w.some (C.Chip.lawful w.chip) };
 
-    fn kind(&self) -> Kind {
-        let kind = self.chip.kind();
-        Kind {
-            pages: kind.pages - self.hidden,
-            ..kind
+    fn config(&self) -> Config {
+        let config = self.chip.config();
+        Config {
+            pages: config.pages - self.hidden,
+            ..config
         }
     }
 

@@ -7,7 +7,7 @@ use Rattle.std.proofs.lemmas.Nat.{shr-shr}
 use Rattle.std.proofs.lemmas.List.{get_or_past}
 use Rattle.std.proofs.lemmas.Bool.{true≢false, cases_lt, cases_eq, cases_order, cond-true, cond-false, eq-eqb, ne_eqb, eqb-true, lt-ltb, le-ltb}
 use Rattle.std.proofs.lemmas.Bool.Decides.{nat_tests}
-use Rattle.frame.specs.Low.{held}
+use Rattle.frame.specs.Low.{saturated}
 use Rattle.mask.specs.Masks.{masked, masked_among, left_over, Past}
 
 -- past the mask's end nothing is masked
@@ -53,7 +53,7 @@ among_bits mask i (suc j) h =
     ap (masked_among mask) (add-suc (8 * i) j) ∙ omega (arith, bit_more mask i j (omega arith), among_bits mask i j (omega arith))
 
 -- one byte further on, where the count is held
-pub count_more : (mask : List ℕ) (i count ones' next : ℕ) → get_or mask i 0 < 256 → count ≡ held (masked_among mask (8 * i)) → ones' ≡ ones (get_or mask i 0) → next ≡ min (count + ones') (2 ^ 64 - 1) → next ≡ held (masked_among mask (8 * (i + 1)))
+pub count_more : (mask : List ℕ) (i count ones' next : ℕ) → get_or mask i 0 < 256 → count ≡ saturated (masked_among mask (8 * i)) → ones' ≡ ones (get_or mask i 0) → next ≡ min (count + ones') (2 ^ 64 - 1) → next ≡ saturated (masked_among mask (8 * (i + 1)))
 count_more mask i count ones' next small was is then =
     let whole : masked_among mask (8 * (i + 1)) ≡ masked_among mask (8 * i + 8) = ap (masked_among mask) (omega arith) in
     omega (arith, ones_bits 8 (get_or mask i 0) small, among_bits mask i 8 (omega arith))

@@ -2,7 +2,7 @@
 #![tactic(auto)]
 
 ghost use Rattle.std.specs.Prelude.{◌≡◌, ℕ, ◌*◌, ◌≤◌, true, length, Decides};
-ghost use Rattle.frame.specs.Low.{held};
+ghost use Rattle.frame.specs.Low.{saturated};
 ghost use Rattle.mask.specs.Masks.{size, masked, masked_among, left_over, Past};
 
 // The bytes of a mask for this many bytes: one eighth, rounded up.
@@ -48,8 +48,8 @@ pub fn set_past(mask: &[u8], length: usize) -> bool
 // How many bytes the mask keeps from being written, held at 2^64 - 1. For a write that no bit is
 // set past, these are its masked bytes.
 pub fn masked_bytes(mask: &[u8]) -> u64
-    ensures value { result ≡ held (masked_among mask.now (8 * length mask.now)) }
-    ensures among { (n : ℕ) → (Past mask.now n → ⊥) → result ≡ held (masked_among mask.now n) }
+    ensures value { result ≡ saturated (masked_among mask.now (8 * length mask.now)) }
+    ensures among { (n : ℕ) → (Past mask.now n → ⊥) → result ≡ saturated (masked_among mask.now n) }
 {
     let mut count = 0u64;
     for byte in mask {

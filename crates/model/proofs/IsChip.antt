@@ -60,9 +60,9 @@ allowed m f = record {
   latency = record { least = grind (arith, common_steps); most = grind (arith, common_steps); full = λ is. grind (arith, common_steps) };
 }
 
-stored_after : (m : Model) (f : Sent) (a : ℕ) → a < length m.store → get_or (store_after m f) a 0 ≡ stored m.kind m.state f a (get_or m.store a 0)
+stored_after : (m : Model) (f : Sent) (a : ℕ) → a < length m.store → get_or (store_after m f) a 0 ≡ stored m.config m.state f a (get_or m.store a 0)
 stored_after m (read b s n) a in_it = refl
-stored_after m (write b s d k) a in_it = put_written (address m.kind m.state b s) d k m.store (length d) a in_it
+stored_after m (write b s d k) a in_it = put_written (address m.config m.state b s) d k m.store (length d) a in_it
 stored_after m (register_read n) a in_it = refl
 stored_after m (register_write n v) a in_it = refl
 stored_after m global_reset a in_it = refl
@@ -71,21 +71,21 @@ filled_read : (stays : Bool) (byte : ℕ → ℕ) (old : List ℕ) → MatchBool
 filled_read true byte old = (length-map-range_with_len byte 0 (length old), λ i h. get_or-map-range_with_len byte 0 (length old) i i 0 h (omega arith))
 filled_read false byte old = refl
 
-filled : (m : Model) (f : Frame) (old : List ℕ) → let s = sent f (length old) in Filled m.kind m.state (answered (meaning (taken m s)) s) s (meaning (taken m s)).byte old (buffer_after m s old)
-filled m (frame.Read b a) old = filled_read (strobe_stays m) (λ i. get_or m.store (address m.kind m.state b a i) 0) old
+filled : (m : Model) (f : Frame) (old : List ℕ) → let s = sent f (length old) in Filled m.config m.state (answered (meaning (taken m s)) s) s (meaning (taken m s)).byte old (buffer_after m s old)
+filled m (frame.Read b a) old = filled_read (strobe_stays m) (λ i. get_or m.store (address m.config m.state b a i) 0) old
 filled m (frame.Write b a d k) old = refl
 filled m (frame.RegisterRead n) old = refl
 filled m (frame.RegisterWrite n v) old = refl
 filled m frame.GlobalReset old = refl
 
-module _ (m : Model) (fr : Frame) (old : List ℕ) (whole : length m.store ≡ size m.kind) where
+module _ (m : Model) (fr : Frame) (old : List ℕ) (whole : length m.store ≡ size m.config) where
   abbrev f : Sent
   f = sent fr (length old)
 
-  takes : Taken (meaning m) f (does m f) old (answer_by m.kind m.state (answered (meaning (taken m f)) f) f) (meaning (taken m f)) (buffer_after m f old)
+  takes : Taken (meaning m) f (does m f) old (answer_by m.config m.state (answered (meaning (taken m f)) f) f) (meaning (taken m f)) (buffer_after m f old)
   takes = record {
     allowed = allowed m f;
-    part = record { kind = refl; refreshes = refl };
+    part = record { config = refl; refreshes = refl };
     state = refl;
     bytes = λ a in_it. cond_both _ _ _ (λ x. get_or (store_after m f) a 0 ≡ x) (λ _. stored_after m f a (omega arith)) (λ _. refl);
     answer = refl;
@@ -99,7 +99,7 @@ module _ (m : Model) (fr : Frame) (old : List ℕ) (whole : length m.store ≡ s
 
   pub sends : (n : Model) (gap : ℕ) (new : List ℕ) (r : Result Reply (Fault ℕ)) → Steps m gap f old r n new → Sends (meaning m) gap f old r (meaning n) new
   sends n gap new r steps = record {
-    judged = judges n new r (refused m.kind m.state gap f) steps.model steps.answer steps.buffer;
+    judged = judges n new r (refused m.config m.state gap f) steps.model steps.answer steps.buffer;
   }
 
 -- ---- a reset
@@ -111,19 +111,19 @@ reset_judges m n r None model answer =
       answer,
       (
         record { strobe = true; byte = (meaning m).byte },
-        record { part = record { kind = refl; refreshes = refl }; state = refl; bytes = λ a in_it. refl },
+        record { part = record { config = refl; refreshes = refl }; state = refl; bytes = λ a in_it. refl },
       ),
     )
 
 pub resets : (m n : Model) (pulse : ℕ) (r : Result (Unit {0}) (Fault ℕ)) → Restarts m pulse r n → Resets (meaning m) pulse r (meaning n)
 resets m n pulse r restarts =
-    record { judged = reset_judges m n r (reset_refused m.kind m.state pulse) restarts.model restarts.answer }
+    record { judged = reset_judges m n r (reset_refused m.config m.state pulse) restarts.model restarts.answer }
 
--- ---- the kind stays
+-- ---- the configuration stays
 
-same_kind : (o : Option Refusal) (m : Model) (f : Sent) (old : List ℕ) → (judged o m f old).model.kind ≡ m.kind
-same_kind (Some e) m f old = refl
-same_kind None m f old = refl
+step_config : (o : Option Refusal) (m : Model) (f : Sent) (old : List ℕ) → (judged o m f old).model.config ≡ m.config
+step_config (Some e) m f old = refl
+step_config None m f old = refl
 
-pub kind_stays : (m n : Model) (gap : ℕ) (f : Sent) (old new : List ℕ) (r : Result Reply (Fault ℕ)) → Steps m gap f old r n new → n.kind ≡ m.kind
-kind_stays m n gap f old new r steps = ap (λ x. x.kind) steps.model ∙ same_kind (refused m.kind m.state gap f) m f old
+pub config_stays : (m n : Model) (gap : ℕ) (f : Sent) (old new : List ℕ) (r : Result Reply (Fault ℕ)) → Steps m gap f old r n new → n.config ≡ m.config
+config_stays m n gap f old new r steps = ap (λ x. x.config) steps.model ∙ step_config (refused m.config m.state gap f) m f old

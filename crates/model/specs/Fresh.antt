@@ -1,7 +1,7 @@
 -- A model as it is made, and what is refused. Assumes nothing.
 use Rattle.std.specs.Prelude.{◌≡◌, ℕ, ◌/◌, ◌%◌, Bool, true, false, cond, not, ◌||◌, List, length, Some, vec_items, Option, ◌==◌, nat_lt}
 use Rattle.clock.specs.Made as clock
-use Rattle.clock.specs.declared.range.Range.{Range}
+use Rattle.clock.specs.declared.range.TemperatureRange.{TemperatureRange}
 use Rattle.fault.specs.declared.Refusal.{Refusal}
 use Rattle.fault.specs.declared.Refusal.TheVariants.{BadSetup}
 use Rattle.frame.specs.Pages.{page}
@@ -17,7 +17,7 @@ abbrev pub bad_store : Make → ℕ → Bool
 bad_store m n = n == 0 || (not (n % page m == 0) || nat_lt largest_size n)
 
 -- 1 before 2 before 3
-abbrev pub unmade : Make → ℕ → ℕ → Range → Option Refusal
+abbrev pub unmade : Make → ℕ → ℕ → TemperatureRange → Option Refusal
 unmade m n khz range = cond (bad_store m n) (Some BadSetup) (clock.refused khz range)
 
 -- unwoken, with the strobe there and nothing counted
@@ -28,16 +28,16 @@ before_wake m = record {
   mr8 = reset_value m 8;
   phase = Unwoken;
   strobe = true;
-  settling = false;
-  low = 0;
+  trst_due = false;
+  latest_low = 0;
   frames = 0;
   clocks = 0;
 }
 
-pub record Fresh (m : Make) (store : List ℕ) (khz : ℕ) (range : Range) (word strobes : ℕ) (d : Device) : Type 0 where
-  pub make : d.kind.make ≡ m
-  pub pages : d.kind.pages ≡ length store / page m
-  pub clock : clock.For khz range d.kind.clock
+pub record Fresh (m : Make) (store : List ℕ) (khz : ℕ) (range : TemperatureRange) (word strobes : ℕ) (d : Device) : Type 0 where
+  pub make : d.config.make ≡ m
+  pub pages : d.config.pages ≡ length store / page m
+  pub clock : clock.IsClockFor khz range d.config.clock
   pub state : d.state ≡ before_wake m
   pub store_is : vec_items d.store ≡ store
   pub word_is : d.word ≡ word

@@ -18,15 +18,15 @@ fn keeps(kept: Span, from: u32, count: u32) -> bool
 impl Device {
     // The size in bytes.
     fn size(&self) -> u32
-        ensures { result ≡ size self.now.kind }
+        ensures { result ≡ size self.now.config }
     {
-        self.kind.pages * self.kind.make.page()
+        self.config.pages * self.config.make.page()
     }
 
     // Whether a coverage refreshes each of `count` addresses from `from` on.
     pub fn refreshed(&self, coverage: Coverage, from: u32, count: u32) -> bool
         ensures { Decides result ((a : ℕ) → from ≤ a → a < from + count → (meaning (inside self.now)).refreshes coverage a ≡ true) }
     {
-        keeps(coverage.kept(self.size()), from, count)
+        keeps(coverage.refreshed_span(self.size()), from, count)
     }
 }

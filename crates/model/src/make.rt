@@ -1,12 +1,12 @@
 // Making a model over a store.
 ghost use Rattle.std.specs.Prelude.{◌≡◌, ◌/◌, length, Some, None, MatchResult};
-ghost use Rattle.clock.specs.Made.{For};
+ghost use Rattle.clock.specs.Made.{IsClockFor};
 ghost use Rattle.frame.specs.Pages.{page};
 ghost use Rattle.chip.specs.Frames.{reset_value};
 ghost use Rattle.model.specs.Fresh.{bad_store, unmade, before_wake};
 
-use chip::{Kind, Phase, State};
-use clock::{Clock, Range};
+use chip::{Config, Phase, State};
+use clock::{Clock, TemperatureRange};
 use fault::Refusal;
 use frame::Make;
 use register::after_reset;
@@ -22,15 +22,20 @@ fn bad_store(make: Make, length: usize) -> bool
 }
 
 // What never changes of a model over so many bytes.
-pub(crate) fn kind(make: Make, length: usize, khz: u32, range: Range) -> Result<Kind, Refusal>
-    ensures { MatchResult result (λ k. (unmade make «length» khz range ≡ None) × (k.make ≡ make) × (k.pages ≡ length / page make) × For khz range k.clock) (λ e. unmade make «length» khz range ≡ Some e) }
+pub(crate) fn config(
+    make: Make,
+    length: usize,
+    khz: u32,
+    range: TemperatureRange,
+) -> Result<Config, Refusal>
+    ensures { MatchResult result (λ k. (unmade make «length» khz range ≡ None) × (k.make ≡ make) × (k.pages ≡ length / page make) × IsClockFor khz range k.clock) (λ e. unmade make «length» khz range ≡ Some e) }
 {
     if bad_store(make, length) {
         return Err(Refusal::BadSetup);
     }
     let clock = Clock::new(khz, range)?;
     let pages = (length / make.page() as usize) as u32;
-    Ok(Kind { make, pages, clock })
+    Ok(Config { make, pages, clock })
 }
 
 // What a register holds after wake or reset. Any number may be asked for: the bus takes each byte.
@@ -50,8 +55,8 @@ pub(crate) fn before_wake(make: Make) -> State
         mr8: reset_value(make, 8),
         phase: Phase::Unwoken,
         strobe: true,
-        settling: false,
-        low: 0,
+        trst_due: false,
+        latest_low: 0,
         frames: 0,
         clocks: 0,
     }

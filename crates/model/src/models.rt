@@ -10,9 +10,9 @@ ghost use Rattle.model.specs.Wins.{WritesWin};
 ghost use Rattle.std.proofs.Common.{rules};
 
 use crate::device::Device;
-use crate::make::{before_wake, kind};
-use chip::{Chip, Frame, Kind, Reply, State};
-use clock::Range;
+use crate::make::{before_wake, config};
+use chip::{Chip, Config, Frame, Reply, State};
+use clock::TemperatureRange;
 use fault::{Fault, Returned};
 use frame::Make;
 use register::Coverage;
@@ -48,7 +48,7 @@ impl Part for PartS {
 pub struct Model<P: Part> {
     device: Device,
     part: PhantomData<P>,
-    ghost own: { device.kind.make ≡ P.MAKE },
+    ghost own: { device.config.make ≡ P.MAKE },
 }
 
 pub type ModelA = Model<PartA>;
@@ -61,16 +61,16 @@ impl<P: Part> Model<P> {
     pub fn new(
         store: Vec<u8>,
         khz: u32,
-        range: Range,
+        range: TemperatureRange,
         word: u32,
         strobes: u16,
     ) -> Result<Model<P>, Returned<Vec<u8>>>
         ensures { MatchResult result (λ m. (unmade P.MAKE (length store.items) khz range ≡ None) × Fresh P.MAKE store.items khz range word strobes m.device) (λ u. (unmade P.MAKE (length store.items) khz range ≡ Some u.fault.refusal) × (u.fault.place ≡ 0) × (u.value.items ≡ store.items)) }
     {
-        match kind(P::MAKE, store.len(), khz, range) {
-            Ok(kind) => Ok(Model {
+        match config(P::MAKE, store.len(), khz, range) {
+            Ok(config) => Ok(Model {
                 device: Device {
-                    kind,
+                    config,
                     state: before_wake(P::MAKE),
                     store,
                     word,
@@ -93,8 +93,8 @@ impl<P: Part> Chip for Model<P> {
 
     ghost lawful = { Prim.search rules };
 
-    fn kind(&self) -> Kind {
-        self.device.kind
+    fn config(&self) -> Config {
+        self.device.config
     }
 
     fn state(&self) -> State {

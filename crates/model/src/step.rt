@@ -34,7 +34,7 @@ impl Device {
         let strobe = self.state.strobe
             && (self.strobes == 0 || self.answered < u32::from(self.strobes));
         let mr0 = Mr0::from(self.state.mr0);
-        let varies = strobe && matches!(mr0.kind, LatencyType::Variable);
+        let varies = strobe && matches!(mr0.latency_type, LatencyType::Variable);
         let least = mr0.lc.clocks();
         let clear = (self.word >> self.turn) % 2 == 0;
         let latency = if varies && clear { least } else { 2 * least };
@@ -50,8 +50,8 @@ impl Device {
         ensures { inside self.new ≡ with_state (inside self.old) (counted self.old.state low strobe) }
     {
         self.state.strobe = strobe;
-        self.state.settling = false;
-        self.state.low = low;
+        self.state.trst_due = false;
+        self.state.latest_low = low;
         self.state.frames = self.state.frames.saturating_add(1);
         self.state.clocks = self.state.clocks.saturating_add(low);
     }
@@ -69,16 +69,16 @@ impl Device {
     // The address of byte `i` of a burst, as it is on the wire. Burst and start stay apart, as the cases
     // of a frame have them.
     fn address(&self, burst: Burst, start: u32, i: usize) -> usize
-        ensures value { result ≡ address self.now.kind self.now.state burst start i }
-        ensures within { start < size self.now.kind → result < size self.now.kind }
+        ensures value { result ≡ address self.now.config self.now.state burst start i }
+        ensures within { start < size self.now.config → result < size self.now.config }
     {
-        on_wire(burst, self.state.mr8).address(self.kind.make, start, i) as usize
+        on_wire(burst, self.state.mr8).address(self.config.make, start, i) as usize
     }
 
     // Fills a buffer with the bytes of a burst.
     pub(crate) fn fill(&self, burst: Burst, start: u32, buffer: &mut [u8])
-        requires { start < size self.now.kind }
-        ensures { buffer.new ≡ map (λ i. slice_index self.now.store.items (address self.now.kind self.now.state burst start i)) (range_with_len 0 (length buffer.old)) }
+        requires { start < size self.now.config }
+        ensures { buffer.new ≡ map (λ i. slice_index self.now.store.items (address self.now.config self.now.state burst start i)) (range_with_len 0 (length buffer.old)) }
     {
         for (i, byte) in buffer.iter_mut().enumerate() {
             *byte = self.store[self.address(burst, start, i)];
@@ -87,8 +87,8 @@ impl Device {
 
     // Stores the unmasked bytes of a write.
     pub(crate) fn put(&mut self, burst: Burst, start: u32, data: &[u8], mask: &[u8])
-        requires { start < size self.old.kind }
-        ensures { inside self.new ≡ with_store (inside self.old) (put (address self.old.kind self.old.state burst start) «data».now mask.now (length «data».now) self.old.store.items) }
+        requires { start < size self.old.config }
+        ensures { inside self.new ≡ with_store (inside self.old) (put (address self.old.config self.old.state burst start) «data».now mask.now (length «data».now) self.old.store.items) }
     {
         for (i, byte) in data.iter().enumerate() {
             let address = self.address(burst, start, i);
@@ -100,13 +100,13 @@ impl Device {
 
     // What a register holds. A number stays a byte: any byte may be sent, and 18 refuses it.
     pub(crate) fn register(&self, number: u8) -> u8
-        ensures { result ≡ register self.now.kind self.now.state number }
+        ensures { result ≡ register self.now.config self.now.state number }
     {
         match number {
             0 => self.state.mr0,
             4 => self.state.mr4,
             8 => self.state.mr8,
-            _ => reset_value(self.kind.make, number),
+            _ => reset_value(self.config.make, number),
         }
     }
 

@@ -15,7 +15,7 @@ impl Device {
     {
         let room = buffer.len();
         // 14 to 18; an arm asks for them where the phase takes the frame, so that 13 goes first
-        let judged = frame.judge(self.kind, self.state, gap, room);
+        let judged = frame.judge(self.config, self.state, gap, room);
         let choice = self.choice();
         let low = frame.low_clocks(self.state, room, choice.latency);
         match (self.state.phase, frame) {
@@ -25,9 +25,9 @@ impl Device {
                 self.state = State {
                     phase: Phase::Awake,
                     strobe: choice.strobe,
-                    settling: true,
-                    low,
-                    ..before_wake(self.kind.make)
+                    trst_due: true,
+                    latest_low: low,
+                    ..before_wake(self.config.make)
                 };
                 self.turn = 0;
                 self.answered = 0;
@@ -85,15 +85,15 @@ impl Device {
     {
         match self.state.phase {
             Phase::Unwoken => Err(Refusal::WrongPhase.at(0)),
-            Phase::Awake if pulse < self.kind.clock.trp => Err(Refusal::TooSoon.at(0)),
+            Phase::Awake if pulse < self.config.clock.trp => Err(Refusal::TooSoon.at(0)),
             Phase::Awake => {
-                let State { mr0, mr4, mr8, .. } = before_wake(self.kind.make);
+                let State { mr0, mr4, mr8, .. } = before_wake(self.config.make);
                 self.state = State {
                     mr0,
                     mr4,
                     mr8,
                     strobe: true,
-                    settling: true,
+                    trst_due: true,
                     ..self.state
                 };
                 self.turn = 0;

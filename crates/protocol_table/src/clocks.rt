@@ -6,13 +6,13 @@ use std::alloc::Global;
 
 // All clock numbers and the period of a range and a clock in kHz, or the number of the refusal.
 pub fn numbers(heap: Global, words: &[Word]) -> Option<String> {
-    let [Word::Range(range), Word::Number(khz)] = words else {
+    let [Word::TemperatureRange(range), Word::Number(khz)] = words else {
         return None;
     };
     match Clock::new(*khz, *range) {
         Ok(clock) => all_numbers(heap, &clock),
         Err(refusal) => {
-            let number = refusal.account().number;
+            let number = refusal.details().number;
             shown(
                 heap,
                 &[Item::Name("refused"), Item::Number(u32::from(number))],

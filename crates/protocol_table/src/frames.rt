@@ -10,7 +10,7 @@ pub fn opening(heap: Global, words: &[Word]) -> Option<String> {
     let [Word::Command(command), Word::Number(address)] = words else {
         return None;
     };
-    let Some(bytes) = command.opening(*address) else {
+    let Some(bytes) = command.opening_bytes(*address) else {
         return shown(heap, &[]);
     };
     let [code, a3, a2, a1, a0] = bytes;
@@ -20,7 +20,7 @@ pub fn opening(heap: Global, words: &[Word]) -> Option<String> {
 
 // The command and the address that five bytes open.
 pub fn opened(heap: Global, bytes: &[u8]) -> Option<String> {
-    match Command::opened(bytes.try_into().ok()?) {
+    match Command::from_opening_bytes(bytes.try_into().ok()?) {
         Some((command, address)) => {
             let code = Item::byte(command.code());
             shown(heap, &[code, Item::Number(address)])

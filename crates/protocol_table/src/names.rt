@@ -1,9 +1,9 @@
 // The names that the protocol's values have in a row.
 use crate::words::{Ask, Word};
-use clock::{Latency, Range};
+use clock::{Latency, TemperatureRange};
 use fault::Refusal;
 use frame::{Block, Burst, Command, Make};
-use register::{Coverage, LatencyType, Line};
+use register::{Coverage, LatencyType, CacheLine};
 
 static NAMES: [(&str, Word); 76] = [
     ("clock", Word::Ask(Ask::Clock)),
@@ -26,8 +26,8 @@ static NAMES: [(&str, Word); 76] = [
     ("script", Word::Ask(Ask::Script)),
     ("report", Word::Ask(Ask::Report)),
     ("refusal", Word::Ask(Ask::Refusal)),
-    ("N", Word::Range(Range::Normal)),
-    ("X", Word::Range(Range::Extended)),
+    ("N", Word::TemperatureRange(TemperatureRange::Normal)),
+    ("X", Word::TemperatureRange(TemperatureRange::Extended)),
     ("three", Word::Latency(Latency::Three)),
     ("four", Word::Latency(Latency::Four)),
     ("five", Word::Latency(Latency::Five)),
@@ -59,9 +59,9 @@ static NAMES: [(&str, Word); 76] = [
     ("top-half", Word::Coverage(Coverage::TopHalf)),
     ("top-quarter", Word::Coverage(Coverage::TopQuarter)),
     ("top-eighth", Word::Coverage(Coverage::TopEighth)),
-    ("line-16", Word::Line(Line::Bytes16)),
-    ("line-32", Word::Line(Line::Bytes32)),
-    ("line-64", Word::Line(Line::Bytes64)),
+    ("line-16", Word::Line(CacheLine::Bytes16)),
+    ("line-32", Word::Line(CacheLine::Bytes32)),
+    ("line-64", Word::Line(CacheLine::Bytes64)),
     ("bad-setup", Word::Refusal(Refusal::BadSetup)),
     (
         "clock-out-of-range",

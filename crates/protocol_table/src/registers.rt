@@ -13,11 +13,11 @@ pub fn meaning(heap: Global, words: &[Word]) -> Option<String> {
     };
     let mr0 = Mr0::from(*value);
     let mr4 = Mr4::from(*value);
-    let kept = mr4.coverage.kept(8);
+    let kept = mr4.coverage.refreshed_span(8);
     shown(
         heap,
         &[
-            Item::Name(name_of(Word::Type(mr0.kind))?),
+            Item::Name(name_of(Word::Type(mr0.latency_type))?),
             Item::Number(mr0.lc.clocks()),
             Item::byte(mr0.drive),
             Item::Number(mr4.wl.clocks()),
@@ -58,12 +58,12 @@ pub fn settings(heap: Global, words: &[Word]) -> Option<String> {
     match words {
         [
             clock @ ..,
-            Word::Type(kind),
+            Word::Type(latency_type),
             Word::Byte(drive),
             Word::Coverage(coverage),
         ] => {
             let clock = clock_of(clock)?;
-            let mr0 = Item::byte(Mr0::value(&clock, *kind, *drive));
+            let mr0 = Item::byte(Mr0::value(&clock, *latency_type, *drive));
             let mr4 = Item::byte(Mr4::value(&clock, *coverage));
             shown(heap, &[mr0, mr4])
         }
@@ -86,7 +86,7 @@ pub fn kept(heap: Global, words: &[Word]) -> Option<String> {
     let [Word::Coverage(coverage), Word::Number(size)] = words else {
         return None;
     };
-    let Span { from, to } = coverage.kept(*size);
+    let Span { from, to } = coverage.refreshed_span(*size);
     if from < to {
         shown(heap, &[Item::Number(from), Item::Number(to)])
     } else {

@@ -55,6 +55,6 @@ pub fn refusal(heap: Global, words: &[Word]) -> Option<String> {
 
 // The line of a refusal, and its layer.
 fn fault_line(heap: Global, fault: Fault) -> Option<String> {
-    let layer = fault.refusal.account().layer;
+    let layer = fault.refusal.details().layer;
     format!(in heap; "{} {layer}", Refused(fault)).ok()
 }

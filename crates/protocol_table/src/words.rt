@@ -1,9 +1,9 @@
 // The words of a question.
 use crate::names::named;
-use clock::{Clock, Latency, Range};
+use clock::{Clock, Latency, TemperatureRange};
 use fault::Refusal;
 use frame::{Burst, Command, Make};
-use register::{Coverage, LatencyType, Line};
+use register::{Coverage, LatencyType, CacheLine};
 use std::alloc::Global;
 
 // What a row asks for: its first word.
@@ -40,14 +40,14 @@ pub enum Word {
     Long(u64),
     // two hexadecimal digits and an h
     Byte(u8),
-    Range(Range),
+    TemperatureRange(TemperatureRange),
     Latency(Latency),
     Make(Make),
     Burst(Burst),
     Command(Command),
     Type(LatencyType),
     Coverage(Coverage),
-    Line(Line),
+    Line(CacheLine),
     Refusal(Refusal),
 }
 
@@ -85,7 +85,7 @@ pub fn words_of(heap: Global, text: &str) -> Option<Vec<Word>> {
 // The clock of a range and a clock in kHz that are not refused.
 pub fn clock_of(words: &[Word]) -> Option<Clock> {
     match words {
-        [Word::Range(range), Word::Number(khz)] => Clock::new(*khz, *range).ok(),
+        [Word::TemperatureRange(range), Word::Number(khz)] => Clock::new(*khz, *range).ok(),
         _ => None,
     }
 }

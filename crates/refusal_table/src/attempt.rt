@@ -18,9 +18,9 @@ pub struct Refused(pub Fault);
 impl fmt::Display for Refused {
     fn fmt<W: fmt::Write>(&self, f: &mut fmt::Formatter<W>) -> fmt::Result {
         let Fault { refusal, place } = self.0;
-        let account = refusal.account();
-        write!(f, "{} at {place}", account.number)?;
-        match account.good {
+        let details = refusal.details();
+        write!(f, "{} at {place}", details.number)?;
+        match details.good {
             Some(good) => write!(f, ", k={good}"),
             None => Ok(()),
         }

@@ -129,13 +129,13 @@ pub fn unwoken(clock: &Clock) -> [Case; 10] {
 pub fn gaps(clock: &Clock) -> [Case; 17] {
     let trst = clock.trst;
     let tcph = clock.tcph;
-    let settling = trst.saturating_sub(1);
+    let trst_due = trst.saturating_sub(1);
     let close = tcph.saturating_sub(1);
     [
         wake(clock.tpu),
         wake(0),
-        read(settling, 6, 2),
-        put(settling, 8, 0x00),
+        read(trst_due, 6, 2),
+        put(trst_due, 8, 0x00),
         put(trst, 8, 0x00),
         // after 5 low clocks tRC asks for no more than tCPH
         put(close, 8, 0x01),
@@ -147,7 +147,7 @@ pub fn gaps(clock: &Clock) -> [Case; 17] {
         pulse(0),
         pulse(clock.trp.saturating_sub(1)),
         pulse(clock.trp),
-        get(settling, 8),
+        get(trst_due, 8),
         write(tcph, 0, 2, 1),
         get(trst, 8),
     ]

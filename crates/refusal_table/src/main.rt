@@ -8,7 +8,7 @@ mod tables;
 
 use attempt::{Refused, stayed};
 use chip::Chip;
-use clock::Range;
+use clock::TemperatureRange;
 use fault::{Fault, Returned};
 use layers::{Scrambler, Window};
 use model::{Model, Part, PartA, PartS};
@@ -26,18 +26,18 @@ const KEY: [u8; 16] = [
 #[derive(Clone, Copy)]
 struct Subject {
     khz: u32,
-    range: Range,
+    range: TemperatureRange,
     strobes: u16,
 }
 
 const FAST: Subject = Subject {
     khz: 133_000,
-    range: Range::Normal,
+    range: TemperatureRange::Normal,
     strobes: 0,
 };
 
 const HOT: Subject = Subject {
-    range: Range::Extended,
+    range: TemperatureRange::Extended,
     ..FAST
 };
 
@@ -87,9 +87,9 @@ fn model<P: Part>(rt: &HostRuntime, subject: Subject) -> Result<Model<P>, Stop> 
 
 fn window<C: Chip + Drop>(rt: &HostRuntime, chip: C, hidden: u32) -> io::Result<()> {
     let before = chip.state();
-    print!(rt; "  hide {hidden} of {}: ", chip.kind().pages)?;
+    print!(rt; "  hide {hidden} of {}: ", chip.config().pages)?;
     match Window::new(chip, hidden) {
-        Ok(window) => println!(rt; "{} left", window.kind().pages),
+        Ok(window) => println!(rt; "{} left", window.config().pages),
         Err(back) => {
             let state = stayed(before == back.value.state());
             println!(rt; "{}; state {state}", Refused(back.fault))

@@ -11,17 +11,17 @@ fn group<C: Chip>(rt: &HostRuntime, chip: &mut C, title: &str, cases: &[Case]) -
 
 // What any chip refuses, apart from lengths and a lost strobe.
 pub fn most<C: Chip>(rt: &HostRuntime, chip: &mut C) -> io::Result<()> {
-    let kind = chip.kind();
-    let gap = kind.clock.trst;
-    let size = kind.pages.saturating_mul(kind.make.page());
-    group(rt, chip, "not woken", &cases::unwoken(&kind.clock))?;
-    group(rt, chip, "gaps", &cases::gaps(&kind.clock))?;
+    let config = chip.config();
+    let gap = config.clock.trst;
+    let size = config.pages.saturating_mul(config.make.page());
+    group(rt, chip, "not woken", &cases::unwoken(&config.clock))?;
+    group(rt, chip, "gaps", &cases::gaps(&config.clock))?;
     group(rt, chip, "starts", &cases::starts(gap, size))?;
     group(rt, chip, "counts", &cases::counts(gap))?;
     group(rt, chip, "two at once", &cases::orders(gap))?;
     group(rt, chip, "register reads", &cases::register_reads(gap))?;
     group(rt, chip, "register writes", &cases::register_writes(gap))?;
-    group(rt, chip, "restart", &cases::restart(&kind.clock))
+    group(rt, chip, "restart", &cases::restart(&config.clock))
 }
 
 // The longest read and the longest write after reset, in bytes.
@@ -31,7 +31,7 @@ pub fn lengths<C: Chip>(
     longest: usize,
     widest: usize,
 ) -> io::Result<()> {
-    let clock = chip.kind().clock;
+    let clock = chip.config().clock;
     group(rt, chip, "wake", &cases::awake(&clock))?;
     group(
         rt,
@@ -43,7 +43,7 @@ pub fn lengths<C: Chip>(
 
 // For a chip that answers two reads.
 pub fn strobes<C: Chip>(rt: &HostRuntime, chip: &mut C) -> io::Result<()> {
-    let clock = chip.kind().clock;
+    let clock = chip.config().clock;
     group(rt, chip, "wake", &cases::awake(&clock))?;
     group(rt, chip, "strobe", &cases::strobes(clock.trst, clock.trp))
 }

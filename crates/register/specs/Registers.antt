@@ -11,8 +11,8 @@ use Rattle.register.specs.declared.fields.Coverage.{Coverage}
 use Rattle.register.specs.declared.fields.Coverage.TheVariants.{All, BottomHalf, BottomQuarter, BottomEighth, Nothing, TopHalf, TopQuarter, TopEighth}
 use Rattle.register.specs.declared.fields.LatencyType.{LatencyType}
 use Rattle.register.specs.declared.fields.LatencyType.TheVariants.{Variable, Fixed}
-use Rattle.register.specs.declared.fields.Line.{Line}
-use Rattle.register.specs.declared.fields.Line.TheVariants as line
+use Rattle.register.specs.declared.fields.CacheLine.{CacheLine}
+use Rattle.register.specs.declared.fields.CacheLine.TheVariants as line
 use Rattle.register.specs.declared.fields.Mr0.{Mr0}
 use Rattle.register.specs.declared.fields.Mr4.{Mr4}
 
@@ -21,7 +21,7 @@ abbrev pub read_latency : ℕ → Latency
 read_latency code = cond (code == 0b000) Three (cond (code == 0b001) Four Five)
 
 abbrev pub mr0 : ℕ → Mr0
-mr0 v = record { kind = cond (v / 32 % 2 == 1) Fixed Variable; lc = read_latency (v / 4 % 8); drive = v % 4 }
+mr0 v = record { latency_type = cond (v / 32 % 2 == 1) Fixed Variable; lc = read_latency (v / 4 % 8); drive = v % 4 }
 
 abbrev pub mr0_reserved : ℕ → Bool
 mr0_reserved v = not (v / 64 == 0) || nat_lt 0b010 (v / 4 % 8)
@@ -76,18 +76,18 @@ bottom size part = record { from = 0; to = size / part }
 abbrev pub top : ℕ → ℕ → Span
 top size part = record { from = size - size / part; to = size }
 
-abbrev pub kept : Coverage → ℕ → Span
-kept All size = bottom size 1
-kept BottomHalf size = bottom size 2
-kept BottomQuarter size = bottom size 4
-kept BottomEighth size = bottom size 8
-kept Nothing size = record { from = 0; to = 0 }
-kept TopHalf size = top size 2
-kept TopQuarter size = top size 4
-kept TopEighth size = top size 8
+abbrev pub refreshed_span : Coverage → ℕ → Span
+refreshed_span All size = bottom size 1
+refreshed_span BottomHalf size = bottom size 2
+refreshed_span BottomQuarter size = bottom size 4
+refreshed_span BottomEighth size = bottom size 8
+refreshed_span Nothing size = record { from = 0; to = 0 }
+refreshed_span TopHalf size = top size 2
+refreshed_span TopQuarter size = top size 4
+refreshed_span TopEighth size = top size 8
 
 -- the block of a cache line
-abbrev pub block_of_line : Line → Block
+abbrev pub block_of_line : CacheLine → Block
 block_of_line line.Bytes16 = block.Bytes16
 block_of_line line.Bytes32 = block.Bytes32
 block_of_line line.Bytes64 = block.Bytes64
@@ -119,12 +119,12 @@ coverage_code TopEighth = 7
 
 -- the values that are written
 abbrev pub mr0_value : Latency → LatencyType → ℕ → ℕ
-mr0_value lc kind drive = 32 * type_code kind + 4 * read_code lc + drive % 4
+mr0_value lc latency_type drive = 32 * type_code latency_type + 4 * read_code lc + drive % 4
 
 abbrev pub mr4_value : Latency → Coverage → ℕ
 mr4_value wl part = 32 * write_code wl + coverage_code part
 
-abbrev pub mr8_value : Line → ℕ
+abbrev pub mr8_value : CacheLine → ℕ
 mr8_value line.Bytes16 = 0x00
 mr8_value line.Bytes32 = 0x01
 mr8_value line.Bytes64 = 0x02

@@ -12,7 +12,7 @@ pub enum LatencyType {
 // MR0: the latency of reads, and the drive strength's code, 0 to 3.
 #[derive(Clone, Copy, Debug, PartialEq, Eq)]
 pub struct Mr0 {
-    pub kind: LatencyType,
+    pub latency_type: LatencyType,
     pub lc: Latency,
     pub drive: u8,
 }
@@ -45,7 +45,7 @@ pub struct Mr8 {
 
 // A cache line that a fill reads.
 #[derive(Clone, Copy, Debug, PartialEq, Eq)]
-pub enum Line {
+pub enum CacheLine {
     Bytes16,
     Bytes32,
     Bytes64,

@@ -5,6 +5,6 @@ mod fields;
 mod table;
 mod values;
 
-pub use fields::{Coverage, LatencyType, Line, Mr0, Mr4, Mr8};
+pub use fields::{CacheLine, Coverage, LatencyType, Mr0, Mr4, Mr8};
 pub use table::{accepts, after_reset, readable, writable};
 pub use values::on_wire;

@@ -1,9 +1,9 @@
 // From the values of the mode registers to what they mean, and back.
 ghost use Rattle.std.specs.Prelude.{◌≡◌, ◌<◌};
-ghost use Rattle.register.specs.Registers.{mr0, mr4, mr8, on_wire, kept, bottom, top, mr0_value, mr4_value, mr8_value};
+ghost use Rattle.register.specs.Registers.{mr0, mr4, mr8, on_wire, refreshed_span, bottom, top, mr0_value, mr4_value, mr8_value};
 ghost use Rattle.register.specs.Written.{WritesMr0, WritesMr4, WritesMr8};
 
-use crate::fields::{Coverage, LatencyType, Line, Mr0, Mr4, Mr8};
+use crate::fields::{CacheLine, Coverage, LatencyType, Mr0, Mr4, Mr8};
 use clock::{Clock, Latency};
 use frame::{Block, Burst, Span};
 
@@ -14,7 +14,7 @@ impl From<u8> for Mr0 {
 
     fn from(value: u8) -> Mr0 {
         Mr0 {
-            kind: if value / 32 % 2 == 1 {
+            latency_type: if value / 32 % 2 == 1 {
                 LatencyType::Fixed
             } else {
                 LatencyType::Variable
@@ -32,11 +32,11 @@ impl From<u8> for Mr0 {
 impl Mr0 {
     // The value of MR0 for a clock, a latency type and a drive code, of which the low two bits
     // are taken.
-    pub fn value(clock: &Clock, kind: LatencyType, drive: u8) -> u8
-        ensures value { result ≡ mr0_value clock.now.lc kind drive }
-        ensures writes { WritesMr0 clock.now.lc kind drive result }
+    pub fn value(clock: &Clock, latency_type: LatencyType, drive: u8) -> u8
+        ensures value { result ≡ mr0_value clock.now.lc latency_type drive }
+        ensures writes { WritesMr0 clock.now.lc latency_type drive result }
     {
-        let fixed = match kind {
+        let fixed = match latency_type {
             LatencyType::Variable => 0,
             LatencyType::Fixed => 0b10_0000,
         };
@@ -113,8 +113,8 @@ fn top(size: u32, part: u32) -> Span
 
 impl Coverage {
     // The addresses that are refreshed, of a size.
-    pub fn kept(self, size: u32) -> Span
-        ensures { result ≡ kept self size }
+    pub fn refreshed_span(self, size: u32) -> Span
+        ensures { result ≡ refreshed_span self size }
     {
         match self {
             Coverage::All => bottom(size, 1),
@@ -150,16 +150,16 @@ impl From<u8> for Mr8 {
     }
 }
 
-impl Line {
+impl CacheLine {
     // The value of MR8 for the wrapped read of a line.
     pub fn mr8(self) -> u8
         ensures value { result ≡ mr8_value self }
         ensures writes { WritesMr8 self result }
     {
         match self {
-            Line::Bytes16 => 0x00,
-            Line::Bytes32 => 0x01,
-            Line::Bytes64 => 0x02,
+            CacheLine::Bytes16 => 0x00,
+            CacheLine::Bytes32 => 0x01,
+            CacheLine::Bytes64 => 0x02,
         }
     }
 }

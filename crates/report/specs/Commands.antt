@@ -1,6 +1,6 @@
 -- The lines of the report after the first, byte for byte. Assumes nothing.
 use Rattle.std.specs.Prelude.{ℕ, ◌-◌, ◌*◌, List, ◌++◌, length, codes, decimal}
-use Rattle.fault.specs.Refusals.{account}
+use Rattle.fault.specs.Refusals.{details}
 use Rattle.mask.specs.Masks.{masked_among}
 use Rattle.hex_digits.specs.Hex.{hex_byte, hex_bytes, six_digits}
 use Rattle.report.specs.Lines.{refusal_line}
@@ -40,4 +40,4 @@ line (LatencyType v cost) = codes "L " ++ (decimal v ++ cost_part cost)
 line (Coverage c cost) = codes "P " ++ (decimal c ++ cost_part cost)
 line (Register n b cost) = codes "Q " ++ (decimal n ++ (codes " " ++ (hex_byte b ++ cost_part cost)))
 line (Reset cost) = codes "Z" ++ cost_part cost
-line (Refused r) = refusal_line (account r.refusal) r.place
+line (Refused r) = refusal_line (details r.refusal) r.place

@@ -1,8 +1,8 @@
 -- The first line of the report and the line of a refusal, byte for byte. Assumes nothing.
 use Rattle.std.specs.Prelude.{ℕ, ◌/◌, ◌%◌, List, [], ◌∷◌, ◌++◌, Some, None, codes, decimal, Option}
 use Rattle.clock.specs.Made.{period}
-use Rattle.fault.specs.Refusals.{account}
-use Rattle.fault.specs.declared.Account.{Account}
+use Rattle.fault.specs.Refusals.{details}
+use Rattle.fault.specs.declared.Details.{Details}
 use Rattle.fault.specs.declared.Refusal.{Refusal}
 use Rattle.frame.specs.Letters.{letter}
 use Rattle.frame.specs.declared.make.Make.{Make}
@@ -23,16 +23,16 @@ good_part None = []
 good_part (Some k) = codes " k=" ++ decimal k
 
 -- the number in two digits, the place as it is written, the good bytes: ! 10 @21, or ! 19 @30 k=1024
-abbrev pub refusal_at : Account → List ℕ → List ℕ
+abbrev pub refusal_at : Details → List ℕ → List ℕ
 refusal_at a place =
     codes "! " ++ (decimal (a.number / 10) ++ (decimal (a.number % 10) ++ (codes " @" ++ (place ++ good_part a.good))))
 
-abbrev pub refusal_line : Account → ℕ → List ℕ
+abbrev pub refusal_line : Details → ℕ → List ℕ
 refusal_line a place = refusal_at a (decimal place)
 
 -- what a script's report begins with: the refusal of its opening, at place 0, or the first line
 abbrev pub begins : Option Refusal → Fields → List ℕ
-begins (Some e) f = refusal_line (account e) 0
+begins (Some e) f = refusal_line (details e) 0
 begins None f = heading_of f.make f.pages f.khz
 
 abbrev pub first_line : List ℕ → List ℕ

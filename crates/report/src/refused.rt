@@ -1,9 +1,9 @@
 // The line of a refusal.
 ghost use Rattle.std.specs.Option.{option_map};
-ghost use Rattle.fault.specs.Refusals.{account};
+ghost use Rattle.fault.specs.Refusals.{details};
 ghost use Rattle.report.specs.Lines.{refusal_at};
 
-use fault::{Account, Fault};
+use fault::{Details, Fault};
 use std::fmt;
 
 // A refusal: its number in two digits, its place, and where the strobe was lost the good bytes.
@@ -11,10 +11,10 @@ use std::fmt;
 pub struct Refused<P>(pub Fault<P>);
 
 impl<P: fmt::Display> fmt::Display for Refused<P> {
-    ghost output = { λ r. option_map (refusal_at (account r.0.refusal)) (P.output r.0.place) };
+    ghost output = { λ r. option_map (refusal_at (details r.0.refusal)) (P.output r.0.place) };
 
     fn fmt<W: fmt::Write>(&self, f: &mut fmt::Formatter<W>) -> fmt::Result {
-        let Account { number, good, .. } = self.0.refusal.account();
+        let Details { number, good, .. } = self.0.refusal.details();
         // `{number:02}` prints the same two digits; the check finds no proof of it
         let tens = number / 10;
         let units = number % 10;

@@ -4,8 +4,8 @@ use Rattle.std.proofs.lemmas.List.{take_at, drop_at}
 use Rattle.std.proofs.lemmas.Bool.{le-leb, and_from, cond-true}
 use Rattle.clock.specs.Letters.{letter as range_byte}
 use Rattle.clock.specs.Made as clock
-use Rattle.clock.specs.declared.range.Range.{Range}
-use Rattle.clock.specs.declared.range.Range.TheVariants.{Normal, Extended}
+use Rattle.clock.specs.declared.range.TemperatureRange.{TemperatureRange}
+use Rattle.clock.specs.declared.range.TemperatureRange.TheVariants.{Normal, Extended}
 use Rattle.frame.specs.Letters.{letter as make_byte}
 use Rattle.frame.specs.declared.make.Make.{Make}
 use Rattle.frame.specs.declared.make.Make.TheVariants as make
@@ -29,11 +29,11 @@ pub make_back : (m : Make) → make_of (make_byte m) ≡ m
 make_back make.A = refl
 make_back make.S = refl
 
-pub is_range_byte : (r : Range) → is_range (range_byte r) ≡ true
+pub is_range_byte : (r : TemperatureRange) → is_range (range_byte r) ≡ true
 is_range_byte Normal = refl
 is_range_byte Extended = refl
 
-pub range_back : (r : Range) → range_of (range_byte r) ≡ r
+pub range_back : (r : TemperatureRange) → range_of (range_byte r) ≡ r
 range_back Normal = refl
 range_back Extended = refl
 

@@ -4,8 +4,8 @@ use Rattle.std.proofs.lemmas.Bool.{and_from, and_left, and_right, or_from, cond-
 use Rattle.std.proofs.lemmas.Option.{cond_some}
 use Rattle.clock.specs.Letters as range
 use Rattle.clock.specs.Made as clock
-use Rattle.clock.specs.declared.range.Range.{Range}
-use Rattle.clock.specs.declared.range.Range.TheVariants.{Normal, Extended}
+use Rattle.clock.specs.declared.range.TemperatureRange.{TemperatureRange}
+use Rattle.clock.specs.declared.range.TemperatureRange.TheVariants.{Normal, Extended}
 use Rattle.fault.specs.declared.Refusal.{Refusal}
 use Rattle.fault.specs.declared.Refusal.TheVariants.{BadSetup}
 use Rattle.frame.specs.Letters as make
@@ -30,15 +30,15 @@ unknown_range bs e (is, (u, none)) =
 known_make : (b : ℕ) (m : Make) → make.letter m ≡ b → (is_make b ≡ true) × (m ≡ make_of b)
 known_make b m e = (ap is_make (sym e) ∙ is_make_byte m, sym (make_back m) ∙ ap make_of e)
 
-known_range : (b : ℕ) (r : Range) → range.letter r ≡ b → (is_range b ≡ true) × (r ≡ range_of b)
+known_range : (b : ℕ) (r : TemperatureRange) → range.letter r ≡ b → (is_range b ≡ true) × (r ≡ range_of b)
 known_range b r e = (ap is_range (sym e) ∙ is_range_byte r, sym (range_back r) ∙ ap range_of e)
 
 -- an opening of which every value is listed
-pub record Formed (bs : List ℕ) (m : Make) (n khz : ℕ) (r : Range) (s : Stack) : Type 0 where
+pub record Formed (bs : List ℕ) (m : Make) (n khz : ℕ) (r : TemperatureRange) (s : Stack) : Type 0 where
   pub clock : refused bs ≡ clock.refused khz r
-  pub says : (k : ℕ) (range : Range) (refresh strobes : ℕ) → k ≡ khz → range ≡ r → refresh ≡ four bs 8 → strobes ≡ two bs 12 → record { make = m; pages = n; khz = k; range = range; refresh = refresh; strobes = strobes; stack = s } ≡ fields bs
+  pub says : (k : ℕ) (range : TemperatureRange) (refresh strobes : ℕ) → k ≡ khz → range ≡ r → refresh ≡ four bs 8 → strobes ≡ two bs 12 → record { make = m; pages = n; khz = k; range = range; refresh = refresh; strobes = strobes; stack = s } ≡ fields bs
 
-pub formed : (bs rest : List ℕ) (m : Make) (n khz letter : ℕ) (r : Range) (s : Stack) (o : Option Stack) → 15 ≤ length bs → length bs ≤ 32768 → n ≡ two bs 1 → n ≢ 0 → n ≤ 16 → make.letter m ≡ get_or bs 0 0 → range.letter r ≡ get_or bs 7 0 → letter ≡ get_or bs 14 0 → o ≡ stack_letter letter n rest → o ≡ Some s → rest ≡ drop 15 bs → khz ≡ four bs 3 → Formed bs m n khz r s
+pub formed : (bs rest : List ℕ) (m : Make) (n khz letter : ℕ) (r : TemperatureRange) (s : Stack) (o : Option Stack) → 15 ≤ length bs → length bs ≤ 32768 → n ≡ two bs 1 → n ≢ 0 → n ≤ 16 → make.letter m ≡ get_or bs 0 0 → range.letter r ≡ get_or bs 7 0 → letter ≡ get_or bs 14 0 → o ≡ stack_letter letter n rest → o ≡ Some s → rest ≡ drop 15 bs → khz ≡ four bs 3 → Formed bs m n khz r s
 formed bs rest m n khz letter r s o some few number paged small make_is range_is at stacked stack behind clocked =
     let make = known_make _ m make_is in
     let range = known_range _ r range_is in

@@ -2,8 +2,8 @@
 use Rattle.std.specs.Prelude.{◌≡◌, ℕ, ◌+◌, ◌*◌, ◌/◌, ◌%◌, ◌≤◌, Bool, cond, ◌&&◌, ◌||◌, List, [], ◌∷◌, ◌++◌, length, take, drop, Some, Option, ◌==◌, nat_le, slice_index}
 use Rattle.clock.specs.Letters.{letter as range_byte}
 use Rattle.clock.specs.Made as clock
-use Rattle.clock.specs.declared.range.Range.{Range}
-use Rattle.clock.specs.declared.range.Range.TheVariants.{Normal, Extended}
+use Rattle.clock.specs.declared.range.TemperatureRange.{TemperatureRange}
+use Rattle.clock.specs.declared.range.TemperatureRange.TheVariants.{Normal, Extended}
 use Rattle.fault.specs.declared.Refusal.{Refusal}
 use Rattle.fault.specs.declared.Refusal.TheVariants.{BadSetup}
 use Rattle.frame.specs.Letters.{letter as make_byte}
@@ -35,7 +35,7 @@ is_pages n = nat_le 1 n && nat_le n 16
 abbrev pub is_range : ℕ → Bool
 is_range b = b == 78 || b == 88
 
-abbrev pub range_of : ℕ → Range
+abbrev pub range_of : ℕ → TemperatureRange
 range_of b = cond (b == 78) Normal Extended
 
 -- places 8 to 11: the refresh word. Places 12 and 13: the strobe count. Place 14: the stack, P, or K, which
@@ -66,7 +66,7 @@ pub record Fields : Type 0 where
   pub make : Make
   pub pages : ℕ
   pub khz : ℕ
-  pub range : Range
+  pub range : TemperatureRange
   pub refresh : ℕ
   pub strobes : ℕ
   pub stack : Stack

@@ -3,7 +3,7 @@ ghost use Rattle.std.specs.Prelude.{◌≡◌, drop, Some, None, MatchResult};
 ghost use Rattle.script.specs.Openings.{refused, fields, told, opening_length, OpeningComesBack};
 ghost use Rattle.script.specs.Parts.{stack_letter};
 
-use clock::{Clock, Range};
+use clock::{Clock, TemperatureRange};
 use fault::{Fault, Refusal};
 use frame::Make;
 

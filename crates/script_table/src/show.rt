@@ -45,7 +45,7 @@ pub fn counts<W: Write>(heap: Global, out: &mut W, script: &[u8]) -> io::Result<
     match ending {
         None => writeln!(out, "at the end"),
         Some(Fault { refusal, place }) => {
-            writeln!(out, "by {} at {place}", refusal.account().number)
+            writeln!(out, "by {} at {place}", refusal.details().number)
         }
     }
 }

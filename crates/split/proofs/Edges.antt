@@ -1,8 +1,8 @@
 -- The values at the edges, by computing. Assumes nothing.
 use Rattle.std.proofs.Common.{◌≡◌, [], ◌∷◌, map, refl}
 use Rattle.std.specs.List.{range_with_len}
-use Rattle.clock.specs.declared.range.Range.TheVariants.{Extended}
-use Rattle.frame.specs.Bursts.{at}
+use Rattle.clock.specs.declared.range.TemperatureRange.TheVariants.{Extended}
+use Rattle.frame.specs.Bursts.{burst_address}
 use Rattle.frame.specs.declared.burst.Block.TheVariants.{Bytes16}
 use Rattle.frame.specs.declared.burst.Burst.TheVariants.{Hybrid}
 use Rattle.frame.specs.declared.make.Make.{Make}
@@ -10,7 +10,7 @@ use Rattle.frame.specs.declared.make.Make.TheVariants as make
 use Rattle.split.specs.declared.direction.Direction.TheVariants.{Write}
 use Rattle.split.specs.Edges.{frames_at, EdgeValues}
 
-hybrid : (m : Make) → map (at m (Hybrid Bytes16) 2) (range_with_len 0 18) ≡ 2 ∷ 3 ∷ 4 ∷ 5 ∷ 6 ∷ 7 ∷ 8 ∷ 9 ∷ 10 ∷ 11 ∷ 12 ∷ 13 ∷ 14 ∷ 15 ∷ 0 ∷ 1 ∷ 16 ∷ 17 ∷ []
+hybrid : (m : Make) → map (burst_address m (Hybrid Bytes16) 2) (range_with_len 0 18) ≡ 2 ∷ 3 ∷ 4 ∷ 5 ∷ 6 ∷ 7 ∷ 8 ∷ 9 ∷ 10 ∷ 11 ∷ 12 ∷ 13 ∷ 14 ∷ 15 ∷ 0 ∷ 1 ∷ 16 ∷ 17 ∷ []
 hybrid make.A = refl
 hybrid make.S = refl
 

@@ -3,11 +3,11 @@ use Rattle.std.specs.Prelude.{◌≡◌, ℕ, [], ◌∷◌, map, Some, None}
 use Rattle.std.specs.List.{range_with_len}
 use Rattle.clock.specs.Made.{refused}
 use Rattle.clock.specs.Times.{TCPH, TRC, TRST, TPU, TRP, tcem_ns, latency, whole, started}
-use Rattle.clock.specs.declared.range.Range.{Range}
-use Rattle.clock.specs.declared.range.Range.TheVariants.{Normal, Extended}
+use Rattle.clock.specs.declared.range.TemperatureRange.{TemperatureRange}
+use Rattle.clock.specs.declared.range.TemperatureRange.TheVariants.{Normal, Extended}
 use Rattle.fault.specs.declared.Refusal.TheVariants.{ClockTooSlow}
-use Rattle.frame.specs.Bursts.{at}
-use Rattle.frame.specs.Opening.{opening}
+use Rattle.frame.specs.Bursts.{burst_address}
+use Rattle.frame.specs.OpeningBytes.{opening_bytes}
 use Rattle.frame.specs.Pages.{page, row_and_column}
 use Rattle.frame.specs.declared.burst.Block.TheVariants.{Bytes16}
 use Rattle.frame.specs.declared.burst.Burst.TheVariants.{Hybrid}
@@ -19,7 +19,7 @@ use Rattle.split.specs.declared.direction.Direction.{Direction}
 use Rattle.split.specs.declared.direction.Direction.TheVariants.{Read, Write}
 
 -- frames of n bytes from s in one direction
-abbrev pub frames_at : Direction → Make → ℕ → Range → ℕ → ℕ → ℕ
+abbrev pub frames_at : Direction → Make → ℕ → TemperatureRange → ℕ → ℕ → ℕ
 frames_at d m khz range s n = frames d (page m) (whole (tcem_ns range) khz) (latency khz) s n
 
 pub record EdgeValues : Type 0 where
@@ -37,11 +37,11 @@ pub record EdgeValues : Type 0 where
   pub normal_taken : refused 10250 Normal ≡ None
   pub normal_refused : refused 10249 Normal ≡ Some ClockTooSlow
   -- a linear read at 804h
-  pub opens : opening LinearRead 0x804 ≡ Some (0x20 ∷ 0x00 ∷ 0x00 ∷ 0x08 ∷ 0x04 ∷ [])
+  pub opens : opening_bytes LinearRead 0x804 ≡ Some (0x20 ∷ 0x00 ∷ 0x00 ∷ 0x08 ∷ 0x04 ∷ [])
   pub place_a : row_and_column make.A 0x804 ≡ (2, 4)
   pub place_s : row_and_column make.S 0x804 ≡ (1, 4)
   -- hybrid 16 from 2, 18 bytes
-  pub hybrid : (m : Make) → map (at m (Hybrid Bytes16) 2) (range_with_len 0 18) ≡ 2 ∷ 3 ∷ 4 ∷ 5 ∷ 6 ∷ 7 ∷ 8 ∷ 9 ∷ 10 ∷ 11 ∷ 12 ∷ 13 ∷ 14 ∷ 15 ∷ 0 ∷ 1 ∷ 16 ∷ 17 ∷ []
+  pub hybrid : (m : Make) → map (burst_address m (Hybrid Bytes16) 2) (range_with_len 0 18) ≡ 2 ∷ 3 ∷ 4 ∷ 5 ∷ 6 ∷ 7 ∷ 8 ∷ 9 ∷ 10 ∷ 11 ∷ 12 ∷ 13 ∷ 14 ∷ 15 ∷ 0 ∷ 1 ∷ 16 ∷ 17 ∷ []
   -- S in the normal range at 133,000 kHz: the longest read in one frame
   pub read_one : frames_at Read make.S 133000 Normal 0 1038 ≡ 1
   pub read_longer : frames_at Read make.S 133000 Normal 0 1040 ≡ 2

@@ -22,7 +22,7 @@ pub fn rounded(start: u32, length: u32) -> Option<Span>
     })
 }
 
-// (Make and clock stay apart here, as in `Splitter::new`: what joins them, a chip's kind, has a size too.)
+// (Make and clock stay apart here, as in `Splitter::new`: what joins them, a chip's configuration, has a size too.)
 // The number of frames that `length` bytes from `start` take in one direction, with the latency
 // of the clock. None where the rounded range has no end that fits.
 #[tactic(auto, using(crate::proofs::Edges::edge_values))]

@@ -3,15 +3,15 @@ use Rattle.chip.specs.Exchanges.{low_by_answer}
 use Rattle.chip.proofs.Bytes.{changed_by_writes_only}
 use Rattle.chip.proofs.Counts.{counts_rise_by_what_was_sent, fit_by}
 use Rattle.chip.proofs.Outcomes.{exchanged_by}
-use Rattle.chip.proofs.Steps.{part_never_changes, refused_leaves_everything, strobe_returns_by_reset_alone}
+use Rattle.chip.proofs.Steps.{config_never_changes, refused_leaves_everything, strobe_returns_by_reset_alone}
 use Rattle.chip.proofs.laws.exchange.Goals as goal
 
 pub returns : goal.returns
 returns g c = record {
-  exchanged = exchanged_by _ _ _ _ _ _ _ _ c.send-answer.ensures (c.low_by_answer-low.ensures ∙ ap (λ s. low_by_answer c.send-answer.result s.low) c.state.ensures) (fit_by _ c.state.result c.state.ensures (omega arith) (omega arith));
+  exchanged = exchanged_by _ _ _ _ _ _ _ _ c.send-answer.ensures (c.low_by_answer-low.ensures ∙ ap (λ s. low_by_answer c.send-answer.result s.latest_low) c.state.ensures) (fit_by _ c.state.result c.state.ensures (omega arith) (omega arith));
   changed_by_writes_only = changed_by_writes_only;
   counts_rise_by_what_was_sent = counts_rise_by_what_was_sent;
   refused_leaves_everything = refused_leaves_everything;
   strobe_returns_by_reset_alone = strobe_returns_by_reset_alone;
-  part_never_changes = part_never_changes;
+  config_never_changes = config_never_changes;
 }

@@ -1,6 +1,6 @@
 use Rattle.std.proofs.Common.{◌≤◌, length, ap, ◌∙◌, arith}
 use Rattle.std.proofs.lemmas.List.{take_all}
-use Rattle.frame.specs.Low.{low_clocks_of, held}
+use Rattle.frame.specs.Low.{low_clocks_of, saturated}
 use Rattle.frame.proofs.Sums.{held_more}
 use Rattle.frame.proofs.low.low_clocks_of.Goals as goal
 
@@ -10,4 +10,4 @@ loop-frame-preserved c = held_more _ _ _ _ _ _ c.loop-frame-test.true c.loop-fra
 pub returns : goal.returns
 returns c =
     let whole : length c.args.frames.now ≤ c.loop-frame.frame-index = omega arith in
-    c.loop-frame.invariant ∙ ap (λ frames. held (low_clocks_of frames)) (take_all _ _ whole)
+    c.loop-frame.invariant ∙ ap (λ frames. saturated (low_clocks_of frames)) (take_all _ _ whole)

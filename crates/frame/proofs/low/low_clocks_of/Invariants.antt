@@ -1,6 +1,6 @@
 use Rattle.std.proofs.Common.{◌≡◌, take}
-use Rattle.frame.specs.Low.{low_clocks_of, held}
+use Rattle.frame.specs.Low.{low_clocks_of, saturated}
 use Rattle.frame.proofs.low.low_clocks_of.Given as goal
 
 abbrev pub invariant-loop-frame : goal.invariant-loop-frame
-invariant-loop-frame l = l.sum ≡ held (low_clocks_of (take l.frame-index l.frames))
+invariant-loop-frame l = l.sum ≡ saturated (low_clocks_of (take l.frame-index l.frames))

@@ -11,7 +11,7 @@ returns g c =
     let m = g.C.Chip.meaning w.chip in
     let f = c.args.frame in
     let n = length c.args.buffer.now in
-    let by = shift w.hidden m.kind in
+    let by = shift w.hidden m.config in
     let below_is : sent c.match-frame.below n ≡ lowered by (sent f n) =
     elim c.match-frame.branch [
       | in-Read w ↦ read_down by f _ _ w.in-Read.start _ n w.in-Read.is w.below-is (w.saturating_add.ensures ∙ ap (λ x. moved x w.in-Read.start) c.shift-shift.ensures)

@@ -3,4 +3,4 @@ use Rattle.chip.specs.Frames.{address}
 use Rattle.model.proofs.device.Device.fill.Given as goal
 
 abbrev pub invariant-loop-i : goal.invariant-loop-i
-invariant-loop-i l = (k : ℕ) → k < l.i → get_or l.buffer k 0 ≡ get_or (vec_items l.self.store) (address l.self.kind l.self.state l.burst l.start k) 0
+invariant-loop-i l = (k : ℕ) → k < l.i → get_or l.buffer k 0 ≡ get_or (vec_items l.self.store) (address l.self.config l.self.state l.burst l.start k) 0

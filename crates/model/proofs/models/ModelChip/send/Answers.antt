@@ -1,12 +1,12 @@
 use Rattle.std.proofs.Common.{sym, ap, ◌∙◌}
 use Rattle.model.specs.Models.{inside}
-use Rattle.model.proofs.IsChip.{sends, kind_stays, last_write_wins}
+use Rattle.model.proofs.IsChip.{sends, config_stays, last_write_wins}
 use Rattle.model.proofs.models.ModelChip.send.Goals as goal
 
 pub invariant_of-self : goal.invariant_of-self
 invariant_of-self g c =
     let m = c.args.self.now in
-    record { own = ap (λ k. k.make) (kind_stays (inside m.device) _ _ _ _ _ _ c.send.ensures) ∙ m.own }
+    record { own = ap (λ k. k.make) (config_stays (inside m.device) _ _ _ _ _ _ c.send.ensures) ∙ m.own }
 
 pub returns-clause-sends : goal.returns-clause-sends
 returns-clause-sends g c =

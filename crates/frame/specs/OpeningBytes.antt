@@ -23,8 +23,8 @@ last_address RegisterWrite = 0xFF
 last_address GlobalReset = 0
 
 -- the command, A3, A2, A1, A0: A3 is 0, and the address lies in the others, high byte first
-abbrev pub opening : Command → ℕ → Option (List ℕ)
-opening c a =
+abbrev pub opening_bytes : Command → ℕ → Option (List ℕ)
+opening_bytes c a =
     cond (nat_le a (last_address c))
     (Some (code c ∷ 0 ∷ a / 65536 % 256 ∷ a / 256 % 256 ∷ a % 256 ∷ [])) None
 
@@ -42,15 +42,15 @@ carried None a = None
 carried (Some c) a = cond (nat_le a (last_address c)) (Some (c, a)) None
 
 -- what five bytes open, if they open a frame
-abbrev pub opened : List ℕ → Option (Command × ℕ)
-opened bs = carried (command_of (slice_index bs 0)) (address_of bs)
+abbrev pub from_opening_bytes : List ℕ → Option (Command × ℕ)
+from_opening_bytes bs = carried (command_of (slice_index bs 0)) (address_of bs)
 
 -- a command and an address that it can carry have opening bytes, and those give back just these two
 abbrev pub GivesBack : Type 0
 GivesBack =
-    (c : Command) (a : ℕ) → a ≤ last_address c → (bs : List ℕ) × (opening c a ≡ Some bs) × (opened bs ≡ Some (c, a))
+    (c : Command) (a : ℕ) → a ≤ last_address c → (bs : List ℕ) × (opening_bytes c a ≡ Some bs) × (from_opening_bytes bs ≡ Some (c, a))
 
 -- what bytes open has these opening bytes, and where they open nothing nothing has
 abbrev pub Opens : List ℕ → Option (Command × ℕ) → Type 0
-Opens bs None = (c : Command) (a : ℕ) → opening c a ≢ Some bs
-Opens bs (Some (c, a)) = opening c a ≡ Some bs
+Opens bs None = (c : Command) (a : ℕ) → opening_bytes c a ≢ Some bs
+Opens bs (Some (c, a)) = opening_bytes c a ≡ Some bs
