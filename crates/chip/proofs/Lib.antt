@@ -4,3 +4,5 @@ pub mod Bytes
 pub mod Counts
 pub mod Wires
 pub mod Outcomes
+pub mod Chains
+pub mod ExactChains

@@ -13,10 +13,12 @@ use Rattle.frame.specs.declared.burst.Burst.TheVariants.{Linear, Wrapped, Hybrid
 use Rattle.frame.specs.declared.command.Command.{Command}
 use Rattle.frame.specs.declared.command.Command.TheVariants.{Read, LinearRead, Write, LinearWrite, RegisterRead, RegisterWrite, GlobalReset}
 use Rattle.register.specs.Registers.{on_wire, readable, accepts}
-use Rattle.chip.specs.Frames.{Sent, read, write, register_read, register_write, global_reset, bad_start, refused, written, holds, Judged, Sends}
+use Rattle.chip.specs.Sent.{Sent, read, write, register_read, register_write, global_reset, Answer}
+use Rattle.chip.specs.Refused.{bad_start, refused}
+use Rattle.chip.specs.Taken.{Fills, written, is_retained, Judged, Sends}
 use Rattle.chip.specs.Meaning.{Meaning, Lawful, size, strobe_at}
-use Rattle.chip.specs.Wire.{linear, command_of_frame, address_of_frame, frame_opening_bytes, Follows, follows_in_frame, Decodes, TakenHasOpening, DoesTheSame, SameOnTheWire}
-use Rattle.chip.specs.declared.parts.Reply.{Reply}
+use Rattle.chip.specs.Wire.{is_linear, command_of_frame, address_of_frame, frame_opening_bytes, FollowingBytes, following_bytes, Decodes, TakenHasOpening, DoesTheSame, SameOnTheWire}
+use Rattle.chip.specs.declared.bus_frame.Reply.{Reply}
 use Rattle.chip.proofs.Tests.{good_start, good_register}
 
 -- ---- opening bytes
@@ -41,7 +43,7 @@ memory_fits : (m : Meaning) (gap a : ℕ) (f : Sent) → bad_start m.config f �
 memory_fits m gap a f test law e =
     let start = sym test ∙ good_start m.config m.state gap f e in
     let below = leb-false _ _ (or_parts (eqb (a % 2) 1) _ start).1 in
-    omega (arith, law.most)
+    omega (arith, m.config.most)
 
 readable_fits : (k : ℕ) → not (readable k) ≡ false → k ≤ 0xFF
 readable_fits k e = ⊎_elim (λ h. let below = ltb-true k 5 h in omega arith) (λ h. let is = eqb-true k 8 h in omega arith) (or_cases (ltb k 5) _ (not-false _ e))
@@ -62,7 +64,7 @@ taken_has_opening m gap global_reset law e = carries GlobalReset 0 (omega arith)
 
 -- ---- the burst that a frame names
 
-same_burst : (b c : Burst) → linear b ≡ linear c → (mr8 : ℕ) → on_wire b mr8 ≡ on_wire c mr8
+same_burst : (b c : Burst) → is_linear b ≡ is_linear c → (mr8 : ℕ) → on_wire b mr8 ≡ on_wire c mr8
 same_burst Linear Linear e v = refl
 same_burst Linear (Wrapped c) e v = cc
 same_burst Linear (Hybrid c) e v = cc
@@ -73,18 +75,25 @@ same_burst (Hybrid b) Linear e v = cc
 same_burst (Hybrid b) (Wrapped c) e v = refl
 same_burst (Hybrid b) (Hybrid c) e v = refl
 
-module _ (b c : Burst) (a : ℕ) (wire : (mr8 : ℕ) → on_wire b mr8 ≡ on_wire c mr8) (m n : Meaning) (old new : List ℕ) (r : Result Reply (Fault ℕ)) where
+module _ (b c : Burst) (a : ℕ) (wire : (mr8 : ℕ) → on_wire b mr8 ≡ on_wire c mr8) (m n : Meaning) (old new : List ℕ) (r : Answer) where
+  same_fill : (k : ℕ) (there : Bool) → MatchBool there (Fills m.config m.state b a k n.byte old new) (new ≡ old) → MatchBool there (Fills m.config m.state c a k n.byte old new) (new ≡ old)
+  same_fill k true full = record {
+    long = full.long;
+    each = λ i inside. full.each i inside ∙ ap (λ w. n.byte (burst_address m.config.make w a i)) (wire m.state.mr8);
+  }
+  same_fill k false stays = stays
+
   judged_read : (k : ℕ) (o : Option Refusal) → Judged o m (read b a k) old r n new → Judged o m (read c a k) old r n new
   judged_read k (Some e) j = j
   judged_read k None (free, t) = (
     free,
     record {
       allowed = t.allowed;
-      part = t.part;
+      same = t.same;
       state = t.state;
       bytes = t.bytes;
       answer = t.answer;
-      buffer = subst (λ w. MatchBool (strobe_at n a) ((length new ≡ length old) × ((i : ℕ) → i < k → get_or new i 0 ≡ n.byte (burst_address m.config.make w a i))) (new ≡ old)) (wire m.state.mr8) t.buffer;
+      buffer = same_fill k (strobe_at n a) t.buffer;
     },
   )
 
@@ -94,21 +103,21 @@ module _ (b c : Burst) (a : ℕ) (wire : (mr8 : ℕ) → on_wire b mr8 ≡ on_wi
     free,
     record {
       allowed = t.allowed;
-      part = t.part;
+      same = t.same;
       state = t.state;
       bytes = λ x in_it.
           t.bytes x in_it
-          ∙ ap (λ w. cond (holds m n (write c a d k) x) (written (burst_address m.config.make w a) d k (length d) x (m.byte x)) (free.byte x)) (wire m.state.mr8);
+          ∙ ap (λ w. cond (is_retained m n (write c a d k) x) (written (burst_address m.config.make w a) d k (length d) x (m.byte x)) (free.byte x)) (wire m.state.mr8);
       answer = t.answer;
       buffer = t.buffer;
     },
   )
 
-same_reads : (b c : Burst) (a n : ℕ) → linear b ≡ linear c → DoesTheSame (read b a n) (read c a n)
+same_reads : (b c : Burst) (a n : ℕ) → is_linear b ≡ is_linear c → DoesTheSame (read b a n) (read c a n)
 same_reads b c a k e m n gap old new r s =
     record { judged = judged_read b c a (same_burst b c e) m n old new r k _ s.judged }
 
-same_writes : (b c : Burst) (a : ℕ) (d m : List ℕ) → linear b ≡ linear c → DoesTheSame (write b a d m) (write c a d m)
+same_writes : (b c : Burst) (a : ℕ) (d m : List ℕ) → is_linear b ≡ is_linear c → DoesTheSame (write b a d m) (write c a d m)
 same_writes b c a d k e m n gap old new r s =
     record { judged = judged_write b c a (same_burst b c e) m n old new r d k _ s.judged }
 
@@ -117,7 +126,7 @@ itself f m n gap old new r s = s
 
 -- ---- a frame as it is read off the wire
 
-decoded : Command → ℕ → Follows → Sent
+decoded : Command → ℕ → FollowingBytes → Sent
 decoded Read a p = read (Wrapped Bytes16) a p.count
 decoded LinearRead a p = read Linear a p.count
 decoded Write a p = write (Wrapped Bytes16) a p.bytes p.mask
@@ -127,7 +136,7 @@ decoded RegisterWrite a p = register_write a (get_or p.bytes 0 0)
 decoded GlobalReset a p = global_reset
 
 on_the_wire : Sent → Sent
-on_the_wire f = decoded (command_of_frame f) (address_of_frame f) (follows_in_frame f)
+on_the_wire f = decoded (command_of_frame f) (address_of_frame f) (following_bytes f)
 
 goes_out : (f : Sent) → DoesTheSame f (on_the_wire f)
 unfolding on_the_wire decoded
@@ -156,7 +165,7 @@ comes_in global_reset = itself global_reset
 same_bytes : GivesBack → (f g : Sent) (bytes : List ℕ) → frame_opening_bytes f ≡ Some bytes → frame_opening_bytes g ≡ Some bytes → ◌≡◌ {A = Command × ℕ} (command_of_frame f, address_of_frame f) (command_of_frame g, address_of_frame g)
 same_bytes back f g bytes p q = same_Some _ _ (sym (decodes back (Some bytes) _ _ (sym p)) ∙ decodes back (Some bytes) _ _ (sym q))
 
-same_frames : GivesBack → (f g : Sent) (bytes : List ℕ) → frame_opening_bytes f ≡ Some bytes → frame_opening_bytes g ≡ Some bytes → follows_in_frame f ≡ follows_in_frame g → DoesTheSame f g
+same_frames : GivesBack → (f g : Sent) (bytes : List ℕ) → frame_opening_bytes f ≡ Some bytes → frame_opening_bytes g ≡ Some bytes → following_bytes f ≡ following_bytes g → DoesTheSame f g
 unfolding on_the_wire
 same_frames back f g bytes p q follows m n gap old new r s =
     let opens = same_bytes back f g bytes p q in

@@ -1,15 +1,17 @@
--- What one event comes to, as a step of a run. Assumes nothing.
-use Rattle.std.specs.Prelude.{◌≡◌, ℕ, ◌<◌, cond, List, [], ◌∷◌, ◌++◌, Ok, Err, Result, ◌==◌}
+-- What one event comes to, as a step of a run and of a chain. Assumes nothing.
+use Rattle.std.specs.Prelude.{◌≡◌, ℕ, ◌<◌, if◌then◌else◌, List, [], ◌∷◌, ◌++◌, length, None, Ok, Err, ◌==◌}
 use Rattle.fault.specs.Refusals.{details}
-use Rattle.fault.specs.declared.Fault.{Fault}
+use Rattle.chip.specs.Chains.{Exchange, event_of, Exchanges, Chain}
 use Rattle.chip.specs.Meaning.{Meaning, size}
-use Rattle.chip.specs.Runs.{Event, Does, Restart, Wake, Step, Runs, Spares, frames_in, clocks_in, CountsFit, Risen, RefusedLeaves, StrobeStaysAway}
-use Rattle.chip.specs.declared.parts.Reply.{Reply}
+use Rattle.chip.specs.Refused.{least_gap}
+use Rattle.chip.specs.Runs.{Does, refusal, IsRestart, IsWake, Step, Runs, Spares, frames_in, clocks_in, CountsFit, RisesBy, RefusedLeaves, StrobeStaysAway}
+use Rattle.chip.specs.Sent.{Event, sent, Answer}
+use Rattle.chip.specs.declared.bus_frame.Frame.{Frame}
 
 -- the low clocks of a frame, by its answer: one with a 19 was sent, and one with another fault was refused
-abbrev pub low_by_answer : Result Reply (Fault ℕ) → ℕ → ℕ
+abbrev pub low_by_answer : Answer → ℕ → ℕ
 low_by_answer (Ok x) latest = latest
-low_by_answer (Err e) latest = cond ((details e.refusal).number == 19) latest 0
+low_by_answer (Err e) latest = if (details e.refusal).number == 19 then latest else 0
 
 -- an event with so many low clocks
 pub record Exchanged (m : Meaning) (e : Event) (low : ℕ) (n : Meaning) : Type 0 where
@@ -17,7 +19,7 @@ pub record Exchanged (m : Meaning) (e : Event) (low : ℕ) (n : Meaning) : Type 
   -- the low clocks are those of a frame that was taken, else 0
   pub clocks : low ≡ clocks_in m e n
   -- the counts rise by them
-  pub counts : (Wake m e → ⊥) → Risen m (frames_in m e n) low n
+  pub counts : (IsWake m e → ⊥) → RisesBy m (frames_in m e n) low n
   -- and are in 64 bits
   pub fit : CountsFit n
   -- a byte that is spared stays
@@ -25,6 +27,23 @@ pub record Exchanged (m : Meaning) (e : Event) (low : ℕ) (n : Meaning) : Type 
   -- a refused event leaves everything
   pub refused : RefusedLeaves m e n
   -- the strobe returns by a reset alone
-  pub strobe : (Restart m e → ⊥) → StrobeStaysAway m n
+  pub strobe : (IsRestart m e → ⊥) → StrobeStaysAway m n
   -- a run up to here goes on by this step
   pub goes_on : (start : Meaning) (steps : List Step) → Runs start steps m → Runs start (steps ++ record { event = e; after = n } ∷ []) n
+
+-- a frame sent after the least gap
+abbrev pub soonest_exchange : Meaning → Frame → List ℕ → Answer → List ℕ → ℕ → Exchange
+soonest_exchange m f old r new low = record {
+  gap = least_gap m.config m.state;
+  frame = sent f (length old);
+  before = old;
+  answer = r;
+  after = new;
+  low = low;
+}
+
+-- the exchange was made, and where it was taken it is one of a chain: a chain up to here goes on by it
+pub record Goes {X : Type 0} (meaning : X → Meaning) (gives : X → Event → X → Type 0) (c : X) (x : Exchange) (d : X) : Type 0 where
+  pub own : gives c (event_of x) d
+  pub one : refusal (meaning c) (event_of x) ≡ None → Exchanges meaning gives c x d
+  pub goes_on : refusal (meaning c) (event_of x) ≡ None → (start : X) (xs : List Exchange) → Chain meaning gives start xs c → Chain meaning gives start (xs ++ x ∷ []) d

@@ -1,6 +1,13 @@
+pub mod Sizes
 pub mod Meaning
-pub mod Frames
+pub mod Sent
+pub mod LowClocks
+pub mod Refused
+pub mod Free
+pub mod Taken
 pub mod Resets
 pub mod Runs
 pub mod Wire
+pub mod Chains
 pub mod Exchanges
+pub mod Exact

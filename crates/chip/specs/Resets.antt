@@ -4,43 +4,31 @@ use Rattle.fault.specs.Refusals.{fault_at}
 use Rattle.fault.specs.declared.Fault.{Fault}
 use Rattle.fault.specs.declared.Refusal.{Refusal}
 use Rattle.fault.specs.declared.Refusal.TheVariants.{WrongPhase, TooSoon}
-use Rattle.chip.specs.Frames.{first, reset_value, SameConfig}
-use Rattle.chip.specs.Meaning.{Meaning, size}
-use Rattle.chip.specs.declared.parts.Config.{Config}
-use Rattle.chip.specs.declared.parts.Phase.{Phase}
-use Rattle.chip.specs.declared.parts.Phase.TheVariants.{Unwoken, Awake}
-use Rattle.chip.specs.declared.parts.State.{State}
+use Rattle.chip.specs.Free.{FreeByReset}
+use Rattle.chip.specs.Meaning.{Meaning, size, SameConfig}
+use Rattle.chip.specs.Refused.{first_refusal}
+use Rattle.chip.specs.Taken.{with_reset_registers}
+use Rattle.chip.specs.declared.config.Config.{Config}
+use Rattle.chip.specs.declared.state.Phase.{Phase}
+use Rattle.chip.specs.declared.state.Phase.TheVariants.{Unwoken, Awake}
+use Rattle.chip.specs.declared.state.State.{State}
 
-abbrev pub unwoken : Phase → Bool
-unwoken Unwoken = true
-unwoken Awake = false
+abbrev pub is_unwoken : Phase → Bool
+is_unwoken Unwoken = true
+is_unwoken Awake = false
 
 -- 13 unless the chip is awake, then 14 where the pulse is shorter than tRP
 abbrev pub reset_refused : Config → State → ℕ → Option Refusal
-reset_refused k s pulse = first ((unwoken s.phase, WrongPhase) ∷ (nat_lt pulse k.clock.trp, TooSoon) ∷ [])
+reset_refused k s pulse =
+    first_refusal ((is_unwoken s.phase, WrongPhase) ∷ (nat_lt pulse k.clock.trp, TooSoon) ∷ [])
 
--- the registers are those of the table and the wait is due; the latest low clocks and the counts stay
+-- the registers are those of the table and tRST is due; the latest low clocks and the counts stay
 abbrev pub after_pulse : Config → State → Bool → State
-after_pulse k s strobe = record {
-  mr0 = reset_value k.make 0;
-  mr4 = reset_value k.make 4;
-  mr8 = reset_value k.make 8;
-  phase = s.phase;
-  strobe = strobe;
-  trst_due = true;
-  latest_low = s.latest_low;
-  frames = s.frames;
-  clocks = s.clocks;
-}
-
--- what a reset leaves free: whether the strobe is there after it, and every byte
-pub record FreeByReset : Type 0 where
-  pub strobe : Bool
-  pub byte : ℕ → ℕ
+after_pulse k s strobe = record (with_reset_registers k s) { strobe = strobe }
 
 -- what a reset that is taken does
 pub record Restarted (m : Meaning) (free : FreeByReset) (n : Meaning) : Type 0 where
-  pub part : SameConfig m n
+  pub same : SameConfig m n
   pub state : n.state ≡ after_pulse m.config m.state free.strobe
   pub bytes : (a : ℕ) → a < size m.config → n.byte a ≡ free.byte a
 

@@ -5,18 +5,13 @@ use Rattle.fault.specs.declared.Fault.{Fault}
 use Rattle.fault.specs.declared.Refusal.{Refusal}
 use Rattle.frame.specs.Low.{saturated}
 use Rattle.mask.specs.Masks.{masked}
-use Rattle.chip.specs.Frames.{Sent, read, write, register_read, register_write, global_reset, place, wakes, refused, address, SameConfig, Sends}
-use Rattle.chip.specs.Meaning.{Meaning, size, refreshed, strobe_at, register_strobe}
+use Rattle.chip.specs.Meaning.{Meaning, size, refreshed, strobe_at, register_strobe, SameConfig}
+use Rattle.chip.specs.Refused.{wakes, refused}
 use Rattle.chip.specs.Resets.{reset_refused, Resets}
-use Rattle.chip.specs.declared.parts.Reply.{Reply}
+use Rattle.chip.specs.Sent.{Sent, read, write, register_read, register_write, global_reset, place, Event, sending, resetting}
+use Rattle.chip.specs.Taken.{address, Sends}
 
 -- ---- events
-
--- a frame sent after a gap, with the buffer before it, the answer and the buffer after it; or a reset by a pulse, with
--- the answer
-pub data Event : Type 0 where
-  sending : ℕ → Sent → List ℕ → Result Reply (Fault ℕ) → List ℕ → Event
-  resetting : ℕ → Result (Unit {0}) (Fault ℕ) → Event
 
 -- what an event does to a chip
 abbrev pub Does : Meaning → Event → Meaning → Type 0
@@ -29,14 +24,14 @@ refusal m (sending gap f old r new) = refused m.config m.state gap f
 refusal m (resetting pulse r) = reset_refused m.config m.state pulse
 
 -- the event is a reset that is taken
-abbrev pub Restart : Meaning → Event → Type 0
-Restart m (sending gap f old r new) = ⊥
-Restart m (resetting pulse r) = refusal m (resetting pulse r) ≡ None
+abbrev pub IsRestart : Meaning → Event → Type 0
+IsRestart m (sending gap f old r new) = ⊥
+IsRestart m (resetting pulse r) = refusal m (resetting pulse r) ≡ None
 
 -- the event is a global reset that is taken
-abbrev pub Wake : Meaning → Event → Type 0
-Wake m (sending gap f old r new) = (refusal m (sending gap f old r new) ≡ None) × (wakes f ≡ true)
-Wake m (resetting pulse r) = ⊥
+abbrev pub IsWake : Meaning → Event → Type 0
+IsWake m (sending gap f old r new) = (refusal m (sending gap f old r new) ≡ None) × (wakes f ≡ true)
+IsWake m (resetting pulse r) = ⊥
 
 -- ---- runs
 
@@ -63,17 +58,15 @@ total count m (s ∷ rest) = count m s.event s.after + total count s.after rest
 -- ---- a byte changes by writes only
 
 -- a read of a comes with the strobe, and the coverage that the chip has refreshes a
-pub record Safe (m : Meaning) (a : ℕ) : Type 0 where
+pub record IsSafe (m : Meaning) (a : ℕ) : Type 0 where
   pub strobe : strobe_at m a ≡ true
   pub covered : refreshed m a ≡ true
 
 -- a byte of the frame that is not masked lies at a, in the burst that is on the wire
 abbrev pub Reaches : Meaning → Sent → ℕ → Type 0
-Reaches m (read b s n) a = ⊥
-Reaches m (write b s d k) a = (i : ℕ) × (i < length d) × (masked k i ≡ false) × (address m.config m.state b s i ≡ a)
-Reaches m (register_read r) a = ⊥
-Reaches m (register_write r v) a = ⊥
-Reaches m global_reset a = ⊥
+Reaches m (write b s d k) a =
+    (i : ℕ) × (i < length d) × (masked k i ≡ false) × (address m.config m.state b s i ≡ a)
+Reaches m _ a = ⊥
 
 -- the event is a write of a that is taken
 abbrev pub Writes : ℕ → Meaning → Event → Type 0
@@ -82,16 +75,17 @@ Writes a m (resetting pulse r) = ⊥
 
 -- an event that does nothing to the byte at a: a is safe before and after, and there is no wake, no restart and no write of a
 pub record Spares (a : ℕ) (m : Meaning) (e : Event) (n : Meaning) : Type 0 where
-  pub before : Safe m a
-  pub after : Safe n a
-  pub no_wake : Wake m e → ⊥
-  pub no_restart : Restart m e → ⊥
+  pub before : IsSafe m a
+  pub after : IsSafe n a
+  pub no_wake : IsWake m e → ⊥
+  pub no_restart : IsRestart m e → ⊥
   pub no_write : Writes a m e → ⊥
 
 -- a byte that each event of a run spares is at the end what it was at the beginning
 abbrev pub ChangedByWritesOnly : Type 0
 ChangedByWritesOnly =
-    (m n : Meaning) (steps : List Step) (a : ℕ) → Runs m steps n → a < size m.config → Each (Spares a) m steps → n.byte a ≡ m.byte a
+    (m n : Meaning) (steps : List Step) (a : ℕ) → Runs m steps n → a < size m.config
+    → Each (Spares a) m steps → n.byte a ≡ m.byte a
 
 -- ---- the counts rise by what was sent
 
@@ -107,7 +101,8 @@ frames_in m (resetting pulse r) n = 0
 
 -- their low clocks: the latest ones, right after the frame
 abbrev pub clocks_in : Meaning → Event → Meaning → ℕ
-clocks_in m (sending gap f old r new) n = unless_refused (refusal m (sending gap f old r new)) n.state.latest_low
+clocks_in m (sending gap f old r new) n =
+    unless_refused (refusal m (sending gap f old r new)) n.state.latest_low
 clocks_in m (resetting pulse r) n = 0
 
 -- the two counts are in 64 bits
@@ -116,14 +111,16 @@ pub record CountsFit (m : Meaning) : Type 0 where
   pub clocks : m.state.clocks < 2 ^ 64
 
 -- the two counts are higher by so many frames and so many low clocks, and stay at 2 ^ 64 - 1
-pub record Risen (m : Meaning) (more low : ℕ) (n : Meaning) : Type 0 where
+pub record RisesBy (m : Meaning) (more low : ℕ) (n : Meaning) : Type 0 where
   pub frames : n.state.frames ≡ saturated (m.state.frames + more)
   pub clocks : n.state.clocks ≡ saturated (m.state.clocks + low)
 
 -- over a run without a wake
 abbrev pub CountsRiseByWhatWasSent : Type 0
 CountsRiseByWhatWasSent =
-    (m n : Meaning) (steps : List Step) → Runs m steps n → CountsFit m → Each (λ p e q. Wake p e → ⊥) m steps → Risen m (total frames_in m steps) (total clocks_in m steps) n
+    (m n : Meaning) (steps : List Step) → Runs m steps n → CountsFit m
+    → Each (λ p e q. IsWake p e → ⊥) m steps
+    → RisesBy m (total frames_in m steps) (total clocks_in m steps) n
 
 -- ---- what is refused leaves everything
 
@@ -145,9 +142,15 @@ abbrev pub BufferStays : Event → Type 0
 BufferStays (sending gap f old r new) = new ≡ old
 BufferStays (resetting pulse r) = Unit {0}
 
--- a refused event answers one of 13 to 18, and leaves everything; so does whatever answers one of 13 to 18
+-- a refused event answers its refusal, with its place, and this is one of 13 to 18
+pub record AnswersRefusal (e : Event) (x : Refusal) : Type 0 where
+  pub fault : fault_of e ≡ Some (fault_at x (place_of e))
+  pub least : 13 ≤ (details x).number
+  pub most : (details x).number ≤ 18
+
+-- a refused event leaves everything; so does whatever answers one of 13 to 18
 pub record RefusedLeaves (m : Meaning) (e : Event) (n : Meaning) : Type 0 where
-  pub answer : (x : Refusal) → refusal m e ≡ Some x → (fault_of e ≡ Some (fault_at x (place_of e))) × (13 ≤ (details x).number) × ((details x).number ≤ 18)
+  pub answer : (x : Refusal) → refusal m e ≡ Some x → AnswersRefusal e x
   pub by_test : (x : Refusal) → refusal m e ≡ Some x → (n ≡ m) × BufferStays e
   pub by_answer : (x : Fault ℕ) → fault_of e ≡ Some x → (details x.refusal).number ≤ 18 → (n ≡ m) × BufferStays e
 
@@ -165,7 +168,8 @@ pub record StrobeStaysAway (m n : Meaning) : Type 0 where
 -- over a run without a restart; a wake does not bring it back
 abbrev pub StrobeReturnsByResetAlone : Type 0
 StrobeReturnsByResetAlone =
-    (m n : Meaning) (steps : List Step) → Runs m steps n → Each (λ p e q. Restart p e → ⊥) m steps → StrobeStaysAway m n
+    (m n : Meaning) (steps : List Step) → Runs m steps n
+    → Each (λ p e q. IsRestart p e → ⊥) m steps → StrobeStaysAway m n
 
 -- ---- make, size, clock numbers and coverages never change
 
