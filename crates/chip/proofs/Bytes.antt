@@ -11,7 +11,6 @@ use Rattle.chip.specs.Free.{FreeByFrame}
 use Rattle.chip.specs.Meaning.{Meaning, size}
 use Rattle.chip.specs.Resets.{ResetJudged}
 use Rattle.chip.specs.Runs.{Does, still, onward, IsSafe, Reaches, Spares, ChangedByWritesOnly}
-use Rattle.chip.specs.declared.bus_frame.Reply.{Reply}
 use Rattle.chip.proofs.Steps.{config_of}
 
 skipped : (hit hidden : Bool) (x old : ℕ) → (hit ≡ true → hidden ≡ false → ⊥) → cond (hit && not hidden) x old ≡ old

@@ -1,25 +1,23 @@
 -- What is true of every chain. Assumes nothing.
-use Rattle.std.proofs.Common.{◌≡◌, ℕ, ◌+◌, ◌*◌, ◌<◌, ◌≤◌, Bool, true, false, List, [], ◌∷◌, ◌++◌, length, map, sum_by, Some, None, Option, sym, refl, ap, ◌∙◌, subst, arith}
+use Rattle.std.proofs.Common.{◌≡◌, ℕ, ◌+◌, ◌*◌, ◌≤◌, Bool, true, false, List, [], ◌∷◌, ◌++◌, length, sum_by, None, sym, refl, ap, ◌∙◌, subst, arith}
 use Rattle.std.specs.Prelude.{All}
 use Rattle.std.proofs.lemmas.Bool.{ltb-false}
 use Rattle.std.proofs.lemmas.List.Elements.{All-cons, All-nil}
 use Rattle.std.proofs.lemmas.List.Sums.{sum_by-cons}
 use Rattle.frame.specs.Low.{saturated}
 use Rattle.clock.specs.Times.{clocks}
-use Rattle.fault.specs.declared.Refusal.{Refusal}
 use Rattle.chip.specs.Chains.{Exchange, event_of, Exchanges, Chain, done, next, IsRun, KeepsTcem, CountsRise, IsChain}
 use Rattle.chip.specs.Exchanges.{soonest_exchange, Exchanged, Goes}
 use Rattle.chip.specs.Free.{FreeByFrame}
 use Rattle.chip.specs.LowClocks.{low_for}
 use Rattle.chip.specs.Meaning.{Meaning, read_latency, most_low}
-use Rattle.chip.specs.Refused.{wakes, least_gap, refused}
-use Rattle.chip.specs.Runs.{Does, refusal, IsWake, Step, Runs, still, onward, frames_in, clocks_in, unless_refused, CountsFit, RisesBy}
-use Rattle.chip.specs.Sent.{sent, send_event, FitsBuffer, Sent, read, write, register_read, register_write, global_reset, Event, sending, Answer}
-use Rattle.chip.specs.Taken.{ended, after, Taken, Judged, Sends}
+use Rattle.chip.specs.Refused.{least_gap, refused}
+use Rattle.chip.specs.Runs.{refusal, IsWake, still, onward, frames_in, clocks_in, unless_refused, CountsFit, RisesBy}
+use Rattle.chip.specs.Sent.{sent, send_event, FitsBuffer, Sent, read, write, register_read, register_write, global_reset, Event, Answer}
+use Rattle.chip.specs.Taken.{ended, Taken, Judged, Sends}
 use Rattle.chip.specs.declared.bus_frame.Frame.{Frame}
 use Rattle.chip.specs.declared.bus_frame.Frame.TheVariants as frame
 use Rattle.chip.specs.declared.config.Config.{Config}
-use Rattle.chip.specs.declared.state.Phase.{Phase}
 use Rattle.chip.specs.declared.state.Phase.TheVariants.{Awake}
 use Rattle.chip.specs.declared.state.State.{State}
 use Rattle.chip.proofs.Counts.{risen, risen_on, still_fit}

@@ -12,7 +12,6 @@ use Rattle.chip.specs.Meaning.{Meaning}
 use Rattle.chip.specs.Resets.{ResetJudged}
 use Rattle.chip.specs.Runs.{Does, IsWake, still, onward, unless_refused, frames_in, clocks_in, CountsFit, RisesBy, CountsRiseByWhatWasSent}
 use Rattle.chip.specs.declared.config.Config.{Config}
-use Rattle.chip.specs.declared.bus_frame.Reply.{Reply}
 use Rattle.chip.specs.declared.state.State.{State}
 
 -- ---- a count that saturates

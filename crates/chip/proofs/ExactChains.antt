@@ -1,7 +1,7 @@
 -- Where each event has one outcome, a list of frames has. Assumes nothing.
-use Rattle.std.proofs.Common.{◌≡◌, ℕ, List, [], ◌∷◌, map, sym, refl, ap, ◌∙◌, subst}
-use Rattle.chip.specs.Chains.{Exchange, Chain, done, next}
-use Rattle.chip.specs.Exact.{OneOutcome, Came, frame_of, came_of, OneOutcomeOfChains}
+use Rattle.std.proofs.Common.{◌≡◌, [], ◌∷◌, map, sym, refl, ap, ◌∙◌, subst}
+use Rattle.chip.specs.Chains.{done, next}
+use Rattle.chip.specs.Exact.{OneOutcome, frame_of, came_of, OneOutcomeOfChains}
 use Rattle.chip.specs.Meaning.{Meaning}
 use Rattle.chip.specs.Refused.{least_gap}
 use Rattle.chip.specs.Sent.{Event, sending, FitsBuffer, read_bytes}

@@ -1,5 +1,5 @@
 -- What a frame comes to, by its answer. Assumes nothing.
-use Rattle.std.proofs.Common.{◌≡◌, ℕ, ◌≤◌, List, Some, None, Ok, Err, Option, Result, sym, refl, ap, ◌∙◌, subst, arith}
+use Rattle.std.proofs.Common.{◌≡◌, ℕ, ◌≤◌, List, Some, None, Ok, Err, Option, sym, refl, ap, ◌∙◌, subst, arith}
 use Rattle.std.proofs.lemmas.Bool.{cond-true, cond-false, eq-eqb, ne_eqb}
 use Rattle.fault.specs.Refusals.{details, fault_at}
 use Rattle.fault.specs.declared.Fault.{Fault}
@@ -9,7 +9,6 @@ use Rattle.chip.specs.Sent.{Sent, place, Event, sending, Answer}
 use Rattle.chip.specs.Taken.{Judged, Sends}
 use Rattle.chip.specs.Meaning.{Meaning}
 use Rattle.chip.specs.Runs.{Does, still, onward, unless_refused, frames_in, clocks_in, CountsFit, RisesBy}
-use Rattle.chip.specs.declared.bus_frame.Reply.{Reply}
 use Rattle.chip.proofs.Bytes.{spared}
 use Rattle.chip.proofs.Counts.{risen_to}
 use Rattle.chip.proofs.Steps.{joined, refused_leaves, strobe_of, only_19}

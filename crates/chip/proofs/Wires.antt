@@ -1,9 +1,8 @@
 -- Only what is on the wire counts. Assumes nothing.
-use Rattle.std.proofs.Common.{◌≡◌, ℕ, ◌%◌, ◌<◌, ◌≤◌, Bool, true, false, cond, not, ◌||◌, eqb, ltb, leb, List, length, get_or, Some, None, MatchBool, Option, Result, sym, refl, ap, ◌∙◌, subst, ⊎_elim, arith}
+use Rattle.std.proofs.Common.{◌≡◌, ℕ, ◌%◌, ◌≤◌, Bool, true, false, cond, not, ◌||◌, eqb, ltb, leb, List, length, get_or, Some, None, MatchBool, Option, sym, refl, ap, ◌∙◌, subst, ⊎_elim, arith}
 use Rattle.std.proofs.lemmas.Bool.{or_parts, or_cases, not-false, leb-true, leb-false, ltb-true, eqb-true, le-leb, cond-true}
 use Rattle.std.proofs.lemmas.Bool.Decides.{nat_tests}
 use Rattle.std.proofs.lemmas.Option.{cond_some, same_Some}
-use Rattle.fault.specs.declared.Fault.{Fault}
 use Rattle.fault.specs.declared.Refusal.{Refusal}
 use Rattle.frame.specs.Bursts.{burst_address}
 use Rattle.frame.specs.OpeningBytes.{last_address, opening_bytes, from_opening_bytes, GivesBack}
@@ -18,7 +17,6 @@ use Rattle.chip.specs.Refused.{bad_start, refused}
 use Rattle.chip.specs.Taken.{Fills, written, is_retained, Judged, Sends}
 use Rattle.chip.specs.Meaning.{Meaning, Lawful, size, strobe_at}
 use Rattle.chip.specs.Wire.{is_linear, command_of_frame, address_of_frame, frame_opening_bytes, FollowingBytes, following_bytes, Decodes, TakenHasOpening, DoesTheSame, SameOnTheWire}
-use Rattle.chip.specs.declared.bus_frame.Reply.{Reply}
 use Rattle.chip.proofs.Tests.{good_start, good_register}
 
 -- ---- opening bytes

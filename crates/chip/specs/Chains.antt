@@ -1,6 +1,6 @@
 -- Frames sent one after another to one chip, as its own relation has them. Assumes nothing.
 -- `gives` is what the chip itself says of an event, `meaning` what a value of it means.
-use Rattle.std.specs.Prelude.{◌≡◌, ℕ, ◌^◌, ◌<◌, ◌≤◌, List, [], ◌∷◌, ◌++◌, length, map, sum_by, None, All}
+use Rattle.std.specs.Prelude.{◌≡◌, ℕ, ◌≤◌, List, [], ◌∷◌, length, map, sum_by, None, All}
 use Rattle.chip.specs.Meaning.{Meaning, most_low}
 use Rattle.chip.specs.Refused.{least_gap}
 use Rattle.chip.specs.Runs.{Does, refusal, Step, Runs, CountsFit, RisesBy}

@@ -8,7 +8,7 @@ use Rattle.mask.specs.Masks.{masked}
 use Rattle.chip.specs.Meaning.{Meaning, size, refreshed, strobe_at, register_strobe, SameConfig}
 use Rattle.chip.specs.Refused.{wakes, refused}
 use Rattle.chip.specs.Resets.{reset_refused, Resets}
-use Rattle.chip.specs.Sent.{Sent, read, write, register_read, register_write, global_reset, place, Event, sending, resetting}
+use Rattle.chip.specs.Sent.{Sent, write, place, Event, sending, resetting}
 use Rattle.chip.specs.Taken.{address, Sends}
 
 -- ---- events

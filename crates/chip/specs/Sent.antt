@@ -1,5 +1,5 @@
 -- What is sent to a chip, and what comes back. Assumes nothing.
-use Rattle.std.specs.Prelude.{◌≡◌, ℕ, List, [], ◌++◌, length, Ok, Err, Result, ⊤}
+use Rattle.std.specs.Prelude.{◌≡◌, ℕ, List, [], length, Ok, Result}
 use Rattle.fault.specs.declared.Fault.{Fault}
 use Rattle.frame.specs.declared.burst.Burst.{Burst}
 use Rattle.chip.specs.declared.bus_frame.Frame.{Frame}

@@ -2,7 +2,7 @@
 use Rattle.std.specs.Prelude.{◌≡◌, ℕ, ◌<◌, Bool, true, false, if◌then◌else◌, List, [], ◌∷◌, Some, None, Option}
 use Rattle.frame.specs.OpeningBytes.{last_address, opening_bytes, from_opening_bytes}
 use Rattle.frame.specs.declared.burst.Burst.{Burst}
-use Rattle.frame.specs.declared.burst.Burst.TheVariants.{Linear, Wrapped, Hybrid}
+use Rattle.frame.specs.declared.burst.Burst.TheVariants.{Linear}
 use Rattle.frame.specs.declared.command.Command.{Command}
 use Rattle.frame.specs.declared.command.Command.TheVariants.{Read, LinearRead, Write, LinearWrite, RegisterRead, RegisterWrite, GlobalReset}
 use Rattle.register.specs.Registers.{on_wire}

@@ -3,7 +3,6 @@ use Rattle.chip.specs.Exchanges.{low_by_answer}
 use Rattle.chip.proofs.Bytes.{changed_by_writes_only}
 use Rattle.chip.proofs.Chains.{every_chain}
 use Rattle.chip.proofs.Counts.{counts_rise_by_what_was_sent, fit_by}
-use Rattle.chip.proofs.ExactChains.{one_outcome_of_chains}
 use Rattle.chip.proofs.Outcomes.{exchanged_by}
 use Rattle.chip.proofs.Steps.{config_never_changes, refused_leaves_everything, strobe_returns_by_reset_alone}
 use Rattle.chip.proofs.exchanges.exchange.Goals as goal

@@ -1,4 +1,4 @@
-use Rattle.std.proofs.Common.{ap, ◌∙◌}
+use Rattle.std.proofs.Common.{◌∙◌}
 use Rattle.chip.specs.Refused.{least_gap}
 use Rattle.chip.proofs.Chains.{goes}
 use Rattle.chip.proofs.ExactChains.{one_outcome_of_chains}

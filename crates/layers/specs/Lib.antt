@@ -1,4 +1,0 @@
-pub mod Windows
-pub mod Scramblers
-pub mod Stacks
-pub mod LawfulWindows

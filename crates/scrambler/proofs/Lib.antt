@@ -1,0 +1,2 @@
+pub mod Scramblers
+pub mod Stacks

@@ -1,0 +1,3 @@
+pub mod Scramblers
+pub mod Laws
+pub mod Stacks
