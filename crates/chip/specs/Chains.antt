@@ -21,7 +21,8 @@ abbrev pub event_of : Exchange → Event
 event_of x = sending x.gap x.frame x.before x.answer x.after
 
 -- a chip came from c to d by this exchange: after the least gap, taken, and low as long as it says
-pub record Exchanges {X : Type 0} (meaning : X → Meaning) (gives : X → Event → X → Type 0) (c : X) (x : Exchange) (d : X) : Type 0 where
+pub record Exchanges {X : Type 0} (meaning : X → Meaning) (gives : X → Event → X → Type 0)
+    (c : X) (x : Exchange) (d : X) : Type 0 where
   pub own : gives c (event_of x) d
   pub does : Does (meaning c) (event_of x) (meaning d)
   pub fits : FitsBuffer x.frame x.before
@@ -30,9 +31,11 @@ pub record Exchanges {X : Type 0} (meaning : X → Meaning) (gives : X → Event
   pub low : x.low ≡ (meaning d).state.latest_low
 
 -- from one value to another by these exchanges, and nothing else
-pub data Chain {X : Type 0} (meaning : X → Meaning) (gives : X → Event → X → Type 0) : X → List Exchange → X → Type 0 where
+pub data Chain {X : Type 0} (meaning : X → Meaning) (gives : X → Event → X → Type 0) : X → List Exchange → X
+    → Type 0 where
   done : {c : X} → Chain meaning gives c [] c
-  next : {c d e : X} {x : Exchange} {rest : List Exchange} → Exchanges meaning gives c x d → Chain meaning gives d rest e → Chain meaning gives c (x ∷ rest) e
+  next : {c d e : X} {x : Exchange} {rest : List Exchange} → Exchanges meaning gives c x d
+      → Chain meaning gives d rest e → Chain meaning gives c (x ∷ rest) e
 
 -- ---- what is true of every chain
 

@@ -7,7 +7,8 @@ use Rattle.chip.specs.Sent.{Sent, Event, sending, resetting, Answer, FitsBuffer,
 
 -- two outcomes of one frame are the same: the values after it, the answers, what was read, and the buffers where they
 -- were the same before
-pub record SameOutcome {X : Type 0} (same : X → X → Type 0) (f : Sent) (old older : List ℕ) (p q : X) (r s : Answer) (new newer : List ℕ) : Type 0 where
+pub record SameOutcome {X : Type 0} (same : X → X → Type 0) (f : Sent) (old older : List ℕ) (p q : X) (r s : Answer)
+    (new newer : List ℕ) : Type 0 where
   pub after : same p q
   pub answer : r ≡ s
   pub came : read_bytes f r new ≡ read_bytes f s newer
@@ -15,7 +16,8 @@ pub record SameOutcome {X : Type 0} (same : X → X → Type 0) (f : Sent) (old 
 
 -- a value is known by what it shows: from values that show the same, one frame after one gap, and one pulse, have one
 -- outcome each
-pub record OneOutcome {X : Type 0} (meaning : X → Meaning) (gives : X → Event → X → Type 0) (same : X → X → Type 0) : Type 0 where
+pub record OneOutcome {X : Type 0} (meaning : X → Meaning) (gives : X → Event → X → Type 0)
+    (same : X → X → Type 0) : Type 0 where
   pub itself : (c : X) → same c c
   pub means : (c d : X) → same c d → meaning c ≡ meaning d
   pub of_frame : (c d p q : X) (gap : ℕ) (f : Sent) (old older new newer : List ℕ) (r s : Answer) →

@@ -29,7 +29,8 @@ pub record Exchanged (m : Meaning) (e : Event) (low : ℕ) (n : Meaning) : Type 
   -- the strobe returns by a reset alone
   pub strobe : (IsRestart m e → ⊥) → StrobeStaysAway m n
   -- a run up to here goes on by this step
-  pub goes_on : (start : Meaning) (steps : List Step) → Runs start steps m → Runs start (steps ++ record { event = e; after = n } ∷ []) n
+  pub goes_on : (start : Meaning) (steps : List Step) → Runs start steps m
+      → Runs start (steps ++ record { event = e; after = n } ∷ []) n
 
 -- a frame sent after the least gap
 abbrev pub soonest_exchange : Meaning → Frame → List ℕ → Answer → List ℕ → ℕ → Exchange
@@ -43,7 +44,9 @@ soonest_exchange m f old r new low = record {
 }
 
 -- the exchange was made, and where it was taken it is one of a chain: a chain up to here goes on by it
-pub record Goes {X : Type 0} (meaning : X → Meaning) (gives : X → Event → X → Type 0) (c : X) (x : Exchange) (d : X) : Type 0 where
+pub record Goes {X : Type 0} (meaning : X → Meaning) (gives : X → Event → X → Type 0) (c : X) (x : Exchange)
+    (d : X) : Type 0 where
   pub own : gives c (event_of x) d
   pub one : refusal (meaning c) (event_of x) ≡ None → Exchanges meaning gives c x d
-  pub goes_on : refusal (meaning c) (event_of x) ≡ None → (start : X) (xs : List Exchange) → Chain meaning gives start xs c → Chain meaning gives start (xs ++ x ∷ []) d
+  pub goes_on : refusal (meaning c) (event_of x) ≡ None → (start : X) (xs : List Exchange)
+      → Chain meaning gives start xs c → Chain meaning gives start (xs ++ x ∷ []) d

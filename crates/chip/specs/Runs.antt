@@ -43,7 +43,8 @@ pub record Step : Type 0 where
 -- from one meaning, by these steps, to another
 pub data Runs : Meaning → List Step → Meaning → Type 0 where
   still : {m : Meaning} → Runs m [] m
-  onward : {m n : Meaning} {s : Step} {rest : List Step} → Does m s.event s.after → Runs s.after rest n → Runs m (s ∷ rest) n
+  onward : {m n : Meaning} {s : Step} {rest : List Step} → Does m s.event s.after → Runs s.after rest n
+      → Runs m (s ∷ rest) n
 
 -- true of each step: of the chip before it, the event and the chip after it
 abbrev pub Each : (Meaning → Event → Meaning → Type 0) → Meaning → List Step → Type 0

@@ -136,7 +136,8 @@ byte_after m n f free a =
     if is_retained m n f a then stored m.config m.state f a (m.byte a) else free.byte a
 
 -- what a frame that is taken does
-pub record Taken (m : Meaning) (f : Sent) (free : FreeByFrame) (old : List ℕ) (r : Answer) (n : Meaning) (new : List ℕ) : Type 0 where
+pub record Taken (m : Meaning) (f : Sent) (free : FreeByFrame) (old : List ℕ) (r : Answer) (n : Meaning)
+    (new : List ℕ) : Type 0 where
   pub allowed : Allowed m.state free
   pub same : SameConfig m n
   pub state : n.state ≡ after m.config m.state f free
@@ -149,5 +150,6 @@ abbrev pub Judged : Option Refusal → Meaning → Sent → List ℕ → Answer 
 Judged (Some e) m f old r n new = (r ≡ Err (fault_at e (place f))) × (n ≡ m) × (new ≡ old)
 Judged None m f old r n new = (free : FreeByFrame) × Taken m f free old r n new
 
-pub record Sends (m : Meaning) (gap : ℕ) (f : Sent) (old : List ℕ) (r : Answer) (n : Meaning) (new : List ℕ) : Type 0 where
+pub record Sends (m : Meaning) (gap : ℕ) (f : Sent) (old : List ℕ) (r : Answer) (n : Meaning)
+    (new : List ℕ) : Type 0 where
   pub judged : Judged (refused m.config m.state gap f) m f old r n new

@@ -69,7 +69,9 @@ pub record SameOnTheWire : Type 0 where
   -- of two bursts that are both linear or both not
   pub bursts : (b c : Burst) → is_linear b ≡ is_linear c → (mr8 : ℕ) → on_wire b mr8 ≡ on_wire c mr8
   pub reads : (b c : Burst) (a n : ℕ) → is_linear b ≡ is_linear c → DoesTheSame (read b a n) (read c a n)
-  pub writes : (b c : Burst) (a : ℕ) (d m : List ℕ) → is_linear b ≡ is_linear c → DoesTheSame (write b a d m) (write c a d m)
+  pub writes : (b c : Burst) (a : ℕ) (d m : List ℕ) → is_linear b ≡ is_linear c → DoesTheSame (write b a d m)
+      (write c a d m)
   -- of two frames with the same opening bytes, and the same behind them
   pub frames : (f g : Sent) (bytes : List ℕ) →
-      frame_opening_bytes f ≡ Some bytes → frame_opening_bytes g ≡ Some bytes → following_bytes f ≡ following_bytes g → DoesTheSame f g
+      frame_opening_bytes f ≡ Some bytes → frame_opening_bytes g ≡ Some bytes
+      → following_bytes f ≡ following_bytes g → DoesTheSame f g

@@ -135,7 +135,8 @@ impl Frame<'_> {
     #[tactic(auto, unfolding(crate::specs::Refused::first_refusal))]
     pub fn judge(self, config: &Config, state: &State, gap: u32, room: usize) -> Result<(), Fault>
         ensures fit { IsOk result ↔ (unfit config.now state.now gap (sent self.entry room) ≡ None) }
-        ensures refused { IfErr result (λ e. unfit config.now state.now gap (sent self.entry room) ≡ Some e.refusal) }
+        ensures refused { IfErr result (λ e.
+            unfit config.now state.now gap (sent self.entry room) ≡ Some e.refusal) }
         ensures place { IfErr result (λ e. e.place ≡ place (sent self.entry room)) }
     {
         let refusal = if gap < state.least_gap(config) {

@@ -35,8 +35,8 @@ fn low_by_answer(answer: Result<Reply, Fault>, latest: u64) -> u64
 /// Sends one frame after a gap, and says how long CE# was low: one step of a run. The clauses
 /// after the first three are true of every run and every chain of this chip.
 pub fn exchange<C: Chip>(chip: &mut C, gap: u32, frame: Frame<'_>, buffer: &mut [u8]) -> Outcome
-    ensures own { C.Chip.gives chip.old (send_event gap frame.entry buffer.old result.answer buffer.new)
-        chip.new }
+    ensures own { C.Chip.gives chip.old
+        (send_event gap frame.entry buffer.old result.answer buffer.new) chip.new }
     ensures exchanged { Exchanged (C.Chip.meaning chip.old)
         (send_event gap frame.entry buffer.old result.answer buffer.new) result.low
         (C.Chip.meaning chip.new) }

@@ -42,9 +42,10 @@ pub trait Chip {
     /// Sends one frame after a gap of so many clocks with CE# high. A read that is answered fills
     /// the buffer, which else stays as it was.
     fn send(&mut self, gap: u32, frame: Frame<'_>, buffer: &mut [u8]) -> Result<Reply, Fault>
-        ensures own { gives self.old (send_event gap frame.entry buffer.old result buffer.new) self.new }
-        ensures does { Does (meaning self.old) (send_event gap frame.entry buffer.old result buffer.new)
-            (meaning self.new) }
+        ensures own { gives self.old (send_event gap frame.entry buffer.old result buffer.new)
+            self.new }
+        ensures does { Does (meaning self.old)
+            (send_event gap frame.entry buffer.old result buffer.new) (meaning self.new) }
         ensures same { same_config self.old self.new };
 
     /// Resets the chip by a pulse of so many clocks on RESET#.

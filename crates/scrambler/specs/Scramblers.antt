@@ -37,13 +37,15 @@ combined_back key n (read b a c) (Ok x) buffer = combined key (address n.config 
 combined_back key n _ _ buffer = buffer
 
 -- the frame was sent to the chip below with its data combined, and what was read was combined
-pub record SentCombined {X : Type 0} (meaning : X → Meaning) (gives : X → Event → X → Type 0) (key : List ℕ) (x : X) (gap : ℕ) (f : Sent) (old : List ℕ) (r : Answer) (y : X) (new : List ℕ) : Type 0 where
+pub record SentCombined {X : Type 0} (meaning : X → Meaning) (gives : X → Event → X → Type 0) (key : List ℕ) (x : X)
+    (gap : ℕ) (f : Sent) (old : List ℕ) (r : Answer) (y : X) (new : List ℕ) : Type 0 where
   pub buffer : List ℕ
   pub sends : gives x (sending gap (combined_frame key (meaning x) f) old r buffer) y
   pub comes_back : new ≡ combined_back key (meaning y) f r buffer
 
 -- what a scrambler with this key does to the chip below, from x to y, and nothing else
-abbrev pub Scrambled : {X : Type 0} → (X → Meaning) → (X → Event → X → Type 0) → List ℕ → X → Event → List ℕ → X → Type 0
+abbrev pub Scrambled : {X : Type 0} → (X → Meaning) → (X → Event → X → Type 0) → List ℕ → X → Event → List ℕ → X
+    → Type 0
 Scrambled meaning gives key x (sending gap f old r new) key' y =
     (key' ≡ key) × SentCombined meaning gives key x gap f old r y new
 Scrambled meaning gives key x (resetting pulse r) key' y = (key' ≡ key) × gives x (resetting pulse r) y

@@ -71,7 +71,8 @@ impl<C: Chip> Chip for Scrambler<C> {
 
     ghost lawful = { λ s. lawful_scrambler _ _ (C.Chip.lawful s.chip) };
 
-    ghost means_the_same = { λ s t same. same_config_above _ _ _ _ (C.Chip.means_the_same s.chip t.chip same.1) };
+    ghost means_the_same = { λ s t same.
+        same_config_above _ _ _ _ (C.Chip.means_the_same s.chip t.chip same.1) };
 
     fn config(&self) -> Config {
         self.chip.config()

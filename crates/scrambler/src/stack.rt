@@ -35,8 +35,8 @@ impl<C: Chip> Scrambler<Window<C>> {
     /// byte of the address, with which it is combined there. What is written through the stack comes
     /// back through it.
     pub fn lies_at(&self, address: u32) -> (u32, u8)
-        ensures below { result.0 ≡ moved (shift self.now.chip.hidden (C.Chip.meaning self.now.chip.chip).config)
-            address }
+        ensures below { result.0 ≡ moved
+            (shift self.now.chip.hidden (C.Chip.meaning self.now.chip.chip).config) address }
         ensures key { result.1 ≡ key_at self.now.key address }
         ensures comes_back { WrittenComesBack }
     {

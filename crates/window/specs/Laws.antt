@@ -27,30 +27,41 @@ within : (m : Make) (pages h a : ℕ) → a + h * page m < pages * page m → a 
 within make.A pages h a below = omega arith
 within make.S pages h a below = omega arith
 
-pub inside_window : (h : ℕ) (m : Meaning) (some : h < m.config.pages) → Lawful m → (c : Coverage) (a : ℕ) → (window h m some).refreshes c a ≡ true → a < size (window h m some).config
+pub inside_window : (h : ℕ) (m : Meaning) (some : h < m.config.pages) → Lawful m → (c : Coverage) (a : ℕ)
+    → (window h m some).refreshes c a ≡ true → a < size (window h m some).config
 inside_window h m some law c a is = within m.config.make m.config.pages h a (law.inside c (a + shift h m.config) is)
 
 pub lawful_window : (h : ℕ) (m : Meaning) (some : h < m.config.pages) → Lawful m → Lawful (window h m some)
 lawful_window h m some law =
     let whole = parts h m.config some in
-    record { full = λ a in_it. law.full (a + shift h m.config) (omega arith); inside = inside_window h m some law; room = law.room }
+    record {
+      full = λ a in_it. law.full (a + shift h m.config) (omega arith);
+      inside = inside_window h m some law;
+      room = law.room;
+    }
 
 -- ---- windows that hide as much of chips that mean as much mean the same
 
 -- that a page is left has one proof
-pub config_equal : (h : ℕ) (k l : Config) → k ≡ l → (p : h < k.pages) (q : h < l.pages) → window_config h k p ≡ window_config h l q
+pub config_equal : (h : ℕ) (k l : Config) → k ≡ l → (p : h < k.pages) (q : h < l.pages)
+    → window_config h k p ≡ window_config h l q
 config_equal h k l e =
-    subst (λ (x : Config). (p : h < k.pages) (q : h < x.pages) → window_config h k p ≡ window_config h x q) e (λ p q. ap (window_config h k) (le_prop p q))
+    subst (λ (x : Config). (p : h < k.pages) (q : h < x.pages) → window_config h k p ≡ window_config h x q) e
+    (λ p q. ap (window_config h k) (le_prop p q))
 
-pub window_equal : (h i : ℕ) (m n : Meaning) → h ≡ i → m ≡ n → (p : h < m.config.pages) (q : i < n.config.pages) → window h m p ≡ window i n q
+pub window_equal : (h i : ℕ) (m n : Meaning) → h ≡ i → m ≡ n → (p : h < m.config.pages) (q : i < n.config.pages)
+    → window h m p ≡ window i n q
 window_equal h i m n hides means =
     subst (λ (j : ℕ). (p : h < m.config.pages) (q : j < n.config.pages) → window h m p ≡ window j n q) hides
-    (subst (λ (x : Meaning). (p : h < m.config.pages) (q : h < x.config.pages) → window h m p ≡ window h x q) means (λ p q. ap (window h m) (le_prop p q)))
+    (subst (λ (x : Meaning). (p : h < m.config.pages) (q : h < x.config.pages) → window h m p ≡ window h x q) means
+    (λ p q. ap (window h m) (le_prop p q)))
 
 -- what never changes below never changes in the window
-pub same_config_above : (h i : ℕ) (m n : Meaning) → i ≡ h → SameConfig m n → (p : h < m.config.pages) (q : i < n.config.pages) → SameConfig (window h m p) (window i n q)
+pub same_config_above : (h i : ℕ) (m n : Meaning) → i ≡ h → SameConfig m n → (p : h < m.config.pages)
+    (q : i < n.config.pages) → SameConfig (window h m p) (window i n q)
 same_config_above h i m n hides same =
-    subst (λ (j : ℕ). (p : h < m.config.pages) (q : j < n.config.pages) → SameConfig (window h m p) (window j n q)) (sym hides)
+    subst (λ (j : ℕ). (p : h < m.config.pages) (q : j < n.config.pages) → SameConfig (window h m p) (window j n q))
+    (sym hides)
     (λ p q. record {
       config = config_equal h n.config m.config same.config q p;
       refreshes = λ i c a. same.refreshes i c (a + shift h (same.config i));
@@ -65,7 +76,8 @@ lowered_fits by (register_read r) buffer fits = tt
 lowered_fits by (register_write r v) buffer fits = tt
 lowered_fits by global_reset buffer fits = tt
 
-came_up : (by p : ℕ) (f : Sent) (r : Answer) (new : List ℕ) → read_bytes f (placed p r) new ≡ read_bytes (lowered by f) r new
+came_up : (by p : ℕ) (f : Sent) (r : Answer) (new : List ℕ)
+    → read_bytes f (placed p r) new ≡ read_bytes (lowered by f) r new
 came_up by p (read b a n) (Ok x) new = refl
 came_up by p (read b a n) (Err e) new = refl
 came_up by p (write b a d k) r new = refl
@@ -74,21 +86,29 @@ came_up by p (register_write k v) r new = refl
 came_up by p global_reset r new = refl
 
 -- seen through projections, so that a struct and its view are served alike
-module _ {W X : Type 0} (hidden : W → ℕ) (chip : W → X) (meaning : X → Meaning) (gives : X → Event → X → Type 0) (same : X → X → Type 0) (some : (w : W) → hidden w < (meaning (chip w)).config.pages) where
+module _ {W X : Type 0} (hidden : W → ℕ) (chip : W → X) (meaning : X → Meaning)
+    (gives : X → Event → X → Type 0) (same : X → X → Type 0)
+    (some : (w : W) → hidden w < (meaning (chip w)).config.pages) where
   abbrev alike : W → W → Type 0
   alike w v = (hidden w ≡ hidden v) × same (chip w) (chip v)
 
   abbrev does : W → Event → W → Type 0
   does w e v = Windowed meaning gives (hidden w) (chip w) e (hidden v) (chip v)
 
-  frame_outcome : OneOutcome meaning gives same → (c d p q : W) (gap : ℕ) (f : Sent) (old older new newer : List ℕ) (r s : Answer) → alike c d → FitsBuffer f old → FitsBuffer f older → does c (sending gap f old r new) p → does d (sending gap f older s newer) q → SameOutcome alike f old older p q r s new newer
+  frame_outcome : OneOutcome meaning gives same → (c d p q : W) (gap : ℕ) (f : Sent) (old older new newer : List ℕ)
+      (r s : Answer) → alike c d → FitsBuffer f old → FitsBuffer f older → does c (sending gap f old r new) p
+      → does d (sending gap f older s newer) q → SameOutcome alike f old older p q r s new newer
   frame_outcome one c d p q gap f old older new newer r s (hides, shows) fits fits' (stays, below) (stays', below') =
       let by = shift (hidden c) (meaning (chip c)).config in
       let by' = shift (hidden d) (meaning (chip d)).config in
       let means = one.means (chip c) (chip d) shows in
       let same_by : by ≡ by' = λ i. shift (hides i) (means i).config in
-      let sends' = subst (λ k. gives (chip d) (sending gap (lowered k f) older below'.answer newer) (chip q)) (sym same_by) below'.sends in
-      let o = one.of_frame (chip c) (chip d) (chip p) (chip q) gap (lowered by f) old older new newer below.answer below'.answer shows (lowered_fits by f old fits) (lowered_fits by f older fits') below.sends sends' in
+      let sends' =
+      subst (λ k. gives (chip d) (sending gap (lowered k f) older below'.answer newer) (chip q)) (sym same_by)
+      below'.sends in
+      let o =
+      one.of_frame (chip c) (chip d) (chip p) (chip q) gap (lowered by f) old older new newer below.answer
+      below'.answer shows (lowered_fits by f old fits) (lowered_fits by f older fits') below.sends sends' in
       record {
         after = (stays ∙ hides ∙ sym stays', o.after);
         answer = below.comes_back ∙ ap (placed (place f)) o.answer ∙ sym below'.comes_back;
@@ -101,10 +121,13 @@ module _ {W X : Type 0} (hidden : W → ℕ) (chip : W → X) (meaning : X → M
         buffer = o.buffer;
       }
 
-  pub window_outcome : OneOutcome meaning gives same → OneOutcome (λ w. window (hidden w) (meaning (chip w)) (some w)) does alike
+  pub window_outcome : OneOutcome meaning gives same
+      → OneOutcome (λ w. window (hidden w) (meaning (chip w)) (some w)) does alike
   window_outcome one = record {
     itself = λ w. (refl, one.itself (chip w));
-    means = λ w v is. window_equal (hidden w) (hidden v) (meaning (chip w)) (meaning (chip v)) is.0 (one.means (chip w) (chip v) is.1) (some w) (some v);
+    means = λ w v is.
+        let means = one.means (chip w) (chip v) is.1 in
+        window_equal (hidden w) (hidden v) (meaning (chip w)) (meaning (chip v)) is.0 means (some w) (some v);
     of_frame = frame_outcome one;
     of_pulse = λ c d p q pulse r s is below below'.
         let o = one.of_pulse (chip c) (chip d) (chip p) (chip q) pulse r s is.1 below.1 below'.1 in

@@ -50,7 +50,8 @@ placed p (Ok x) = Ok x
 placed p (Err f) = Err (fault_at f.refusal p)
 
 -- the frame was sent to the chip below with its start moved, and a fault came back with the place as it was called
-pub record SentBelow {X : Type 0} (meaning : X → Meaning) (gives : X → Event → X → Type 0) (hidden : ℕ) (x : X) (gap : ℕ) (f : Sent) (old : List ℕ) (r : Answer) (y : X) (new : List ℕ) : Type 0 where
+pub record SentBelow {X : Type 0} (meaning : X → Meaning) (gives : X → Event → X → Type 0) (hidden : ℕ) (x : X)
+    (gap : ℕ) (f : Sent) (old : List ℕ) (r : Answer) (y : X) (new : List ℕ) : Type 0 where
   pub answer : Answer
   pub sends : gives x (sending gap (lowered (shift hidden (meaning x).config) f) old answer new) y
   pub comes_back : r ≡ placed (place f) answer

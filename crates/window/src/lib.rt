@@ -62,7 +62,8 @@ impl<C: Chip> Chip for Window<C> {
 
     ghost meaning = { λ w. window w.hidden (C.Chip.meaning w.chip) w.some };
 
-    ghost gives = { λ w e v. Windowed C.Chip.meaning C.Chip.gives w.hidden w.chip e v.hidden v.chip };
+    ghost gives = { λ w e v.
+        Windowed C.Chip.meaning C.Chip.gives w.hidden w.chip e v.hidden v.chip };
 
     ghost same_config = { λ w v. (v.hidden ≡ w.hidden) × C.Chip.same_config w.chip v.chip };
 
@@ -125,5 +126,6 @@ impl<C: Exact> Exact for Window<C> {
 
     ghost shows_same = { λ w v. (w.hidden ≡ v.hidden) × C.Exact.shows_same w.chip v.chip };
 
-    ghost one_outcome = { window_outcome (λ w. w.hidden) (λ w. w.chip) _ _ _ (λ w. w.some) C.Exact.one_outcome };
+    ghost one_outcome = { window_outcome (λ w. w.hidden) (λ w. w.chip) _ _ _ (λ w. w.some)
+        C.Exact.one_outcome };
 }
