@@ -1,38 +1,8 @@
 """A little chip for the expected output of bus_trace and refusal_table: times in exact fractions, a dictionary of
 bytes, bursts by stepping an address counter, and a window and a scrambler that move addresses and combine bytes one
 at a time."""
-from fractions import Fraction
-
-TCPH, TRC, TRST, TPU, TRP = 18, 60, 2000, 150000, 1000  # ns
-TCEM = {"N": 4000, "X": 1000}  # ns
-PAGE = {"A": 1024, "S": 2048}
-TABLE = {
-    "A": {0: 0x09, 1: 0x0D, 2: 0x95, 3: 0xE0, 4: 0x40, 8: 0x05},
-    "S": {0: 0x08, 1: 0x9A, 2: 0xC5, 3: 0x00, 4: 0x40, 8: 0x05},
-}
-READ_CODES = {0b000: 3, 0b001: 4, 0b010: 5}
-WRITE_CODES = {0b000: 3, 0b100: 4, 0b010: 5}
-# the values that a register takes
-TAKEN = {
-    0: {kind << 5 | code << 2 | drive for kind in (0, 1) for code in READ_CODES for drive in range(4)},
-    4: {code << 5 | coverage for code in WRITE_CODES for coverage in range(8)},
-    8: set(range(8)),
-}
-
-
-class Clock:
-    def __init__(self, khz, letter):
-        self.khz = khz
-        self.tcem = TCEM[letter]
-
-    def lasts(self, clocks):
-        return Fraction(clocks * 10**6, self.khz)
-
-    def least(self, ns):
-        n = 0
-        while self.lasts(n) < ns:
-            n += 1
-        return n
+from sheet import (AFTER_RESET, BLOCKS, PAGE, READ_CODES, TPU, TCPH, TRC, TRP, TRST, WRITE_CODES, block_length,
+                   keeps_tcem, lasts, low_clocks, mask_bits, mask_size, taken, walk)
 
 
 class Refused(Exception):
@@ -40,13 +10,15 @@ class Refused(Exception):
 
 
 class Chip:
-    def __init__(self, make, clock, pages, word, strobes):
-        self.clock = clock
+    def __init__(self, make, khz, clock_range, pages, word, strobes):
+        self.khz = khz
+        self.range = clock_range
         self.page = PAGE[make]
+        self.pages = pages
         self.size = pages * self.page
         self.word = word        # bit k: the k-th read of variable latency meets a refresh
         self.strobes = strobes  # reads that are answered before the strobe goes; 0: it stays
-        self.table = TABLE[make]
+        self.table = AFTER_RESET[make]
         self.registers = dict(self.table)
         self.bytes = {}
         self.awake = False
@@ -66,10 +38,10 @@ class Chip:
     def admit(self, gap, waking):
         if self.awake == waking:
             raise Refused(13)
-        spent = self.clock.lasts(gap)
+        spent = lasts(gap, self.khz)
         if spent < TCPH or spent < self.due:
             raise Refused(14)
-        if self.low is not None and self.clock.lasts(gap + self.low) < TRC:
+        if self.low is not None and lasts(gap + self.low, self.khz) < TRC:
             raise Refused(14)
 
     def admit_start(self, start):
@@ -77,7 +49,7 @@ class Chip:
             raise Refused(15)
 
     def admit_low(self, low):
-        if self.clock.lasts(low) > self.clock.tcem:
+        if not keeps_tcem(self.range, self.khz, low):
             raise Refused(17)
 
     # ---- the frame itself
@@ -92,32 +64,20 @@ class Chip:
         self.frames += 1
         self.clocks += low
 
+    def bits(self, number):
+        return f"{self.registers[number]:08b}"
+
     def read_latency(self):
-        return READ_CODES[self.registers[0] >> 2 & 7]
+        return READ_CODES[self.bits(0)[3:6]]
 
     def write_latency(self):
-        return WRITE_CODES[self.registers[4] >> 5]
+        return WRITE_CODES[self.bits(4)[:3]]
 
     def walk(self, linear, start, count):
-        """The addresses of a burst, by a counter that steps."""
-        first = start // self.page * self.page
-        block = self.page if linear else [16, 32, 64, self.page][self.registers[8] & 3]
-        hybrid = not linear and self.registers[8] & 4 and block != self.page
-        base = start
-        while base % block:
-            base -= 1
-        at, gone, loose = start, 0, False
-        for _ in range(count):
-            yield at
-            at += 1
-            gone += 1
-            if hybrid and gone == block:
-                loose = True
-                at = base + block
-            if loose and at == first + self.page:
-                at = first
-            elif not loose and at == base + block:
-                at = base
+        """The addresses of a burst, which goes by MR8 if it is not linear."""
+        bits = self.bits(8)
+        block = "page" if linear else BLOCKS[bits[6:]]
+        return walk(self.page, not linear and bits[5] == "1", block_length(block, self.page), start, count)
 
     def wake(self, gap):
         self.admit(gap, True)
@@ -125,7 +85,7 @@ class Chip:
         self.registers = dict(self.table)
         self.awake = True
         self.due = TRST
-        self.low = 4
+        self.low = low_clocks("global-reset")
         self.frames = self.clocks = self.answered = self.varied = 0
 
     def read(self, gap, linear, start, count):
@@ -135,12 +95,11 @@ class Chip:
         if count == 0:
             raise Refused(16)
         latency = self.read_latency()
-        pairs = count // 2 + count % 2
-        self.admit_low(3 + 2 * latency + pairs)
+        self.admit_low(low_clocks("read", latency + latency, count))
         self.begins()
-        variable = self.strobe and not self.registers[0] & 0x20
+        variable = self.strobe and self.bits(0)[2] == "0"
         refresh = self.word >> self.varied % 32 & 1
-        self.ends(3 + (latency if variable and not refresh else 2 * latency) + pairs)
+        self.ends(low_clocks("read", latency if variable and not refresh else latency + latency, count))
         if not self.strobe:
             return None
         self.answered += 1
@@ -148,15 +107,15 @@ class Chip:
         return [self.bytes.get(a, 0) for a in self.walk(linear, start, count)]
 
     def write(self, gap, linear, start, data, mask):
-        """`mask` has a list of eight flags for each of its bytes; a set one keeps a byte from being written."""
+        """A set bit of the mask keeps a byte from being written."""
         self.admit(gap, False)
         self.admit_start(start)
-        if len(data) == 0 or len(data) % 2 or len(mask) != len(range(0, len(data), 8)):
+        if len(data) == 0 or len(data) % 2 or len(mask) != mask_size(len(data)):
             raise Refused(16)
-        low = 3 + self.write_latency() + len(data) // 2
+        low = low_clocks("write", self.write_latency(), len(data))
         self.admit_low(low)
         self.begins()
-        masked = [flag for flags in mask for flag in flags]
+        masked = mask_bits(mask)
         for i, a in enumerate(self.walk(linear, start, len(data))):
             if not masked[i]:
                 self.bytes[a] = data[i]
@@ -168,7 +127,7 @@ class Chip:
         if number not in self.table:
             raise Refused(18)
         self.begins()
-        self.ends(3 + self.read_latency() + 1)
+        self.ends(low_clocks("register-read", self.read_latency(), 2))
         if not self.strobe:
             return None
         self.answered += 1
@@ -176,16 +135,16 @@ class Chip:
 
     def write_register(self, gap, number, value):
         self.admit(gap, False)
-        if value not in TAKEN.get(number, ()):
+        if f"{value:08b}" not in taken().get(number, ()):
             raise Refused(18)
         self.begins()
         self.registers[number] = value
-        self.ends(3 + 1 + 1)
+        self.ends(low_clocks("register-write", 1, 2))
 
     def reset(self, pulse):
         if not self.awake:
             raise Refused(13)
-        if self.clock.lasts(pulse) < TRP:
+        if lasts(pulse, self.khz) < TRP:
             raise Refused(14)
         self.registers = dict(self.table)
         self.strobe = True

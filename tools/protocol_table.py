@@ -1,8 +1,8 @@
 #!/usr/bin/env python3
 """Writes the rows of crates/protocol_table/stdin to standard output.
 
-A row is a question and its answer, parted by " = ". The answers are worked out here from the
-times and the tables of the data sheets, and not by the formulas of the code: clock numbers by
+A row is a question and its answer, parted by " = ". The answers are worked out from the times and
+the tables of the data sheets (sheet.py), and not by the formulas of the code: clock numbers by
 search among exact times, addresses by a counter that steps from byte to byte, splits by adding
 two bytes at a time, register values by their bits as text.
 
@@ -11,49 +11,12 @@ a number behind a plus is that of zeros to add.
 """
 
 import struct
-from fractions import Fraction
 
-NORMAL, EXTENDED = "N", "X"
+from sheet import (AFTER_RESET, BLOCKS, COMMANDS, COVERAGES, EXTENDED, LONGEST, NORMAL, OPENING, PAGE, READ_CODES, TCEM,
+                   TCPH, TPU, TRC, TRP, TRST, WRITE_CODES, block_length, clock_refused, fewest_clocks, in_hex, keeps_tcem,
+                   last_start, latency_of, low_clocks, mask_bits, mask_size, most_clocks, period_ps, taken, walk)
 
-# Times in nanoseconds.
-TCEM = {NORMAL: 4000, EXTENDED: 1000}
-TCPH, TRC, TRST, TPU, TRP = 18, 60, 2000, 150000, 1000
-
-# The fastest clock in MHz, and the latency up to it.
-SPEEDS = [(66, 3), (109, 4), (133, 5)]
-
-PAGES = {"A": 1024, "S": 2048}
-
-CODES = {
-    "read": 0x00,
-    "linear-read": 0x20,
-    "write": 0x80,
-    "linear-write": 0xA0,
-    "register-read": 0x40,
-    "register-write": 0xC0,
-    "global-reset": 0xFF,
-}
-
-BLOCKS = ["16", "32", "64", "page"]
-
-BURSTS = ["linear"] + ["wrapped-" + b for b in BLOCKS] + ["hybrid-" + b for b in BLOCKS]
-
-COVERAGES = {
-    "000": "all",
-    "001": "bottom-half",
-    "010": "bottom-quarter",
-    "011": "bottom-eighth",
-    "100": "nothing",
-    "101": "top-half",
-    "110": "top-quarter",
-    "111": "top-eighth",
-}
-
-# What MR0 to MR4 and MR8 hold after a reset.
-AFTER_RESET = {
-    "A": {0: "09", 1: "0D", 2: "95", 3: "E0", 4: "40", 8: "05"},
-    "S": {0: "08", 1: "9A", 2: "C5", 3: "00", 4: "40", 8: "05"},
-}
+BURSTS = ["linear"] + [order + "-" + block for order in ("wrapped", "hybrid") for block in BLOCKS.values()]
 
 REFUSALS = [
     ("bad-setup", 1, "script"),
@@ -94,80 +57,7 @@ def yes_or_no(flag):
     return "true" if flag else "false"
 
 
-def least(holds):
-    """The least number from which on `holds` is true, by doubling and halving."""
-    if holds(0):
-        return 0
-    above = 1
-    while not holds(above):
-        above *= 2
-    below = above // 2
-    while above - below > 1:
-        middle = (above + below) // 2
-        if holds(middle):
-            above = middle
-        else:
-            below = middle
-    return above
-
-
 # Clocks
-
-
-def period_ns(khz):
-    return Fraction(1000000, khz)
-
-
-def latency_of(khz):
-    return next(clocks for mhz, clocks in SPEEDS if khz <= mhz * 1000)
-
-
-def most_clocks(ns, khz):
-    """The most clocks that last no longer than a time."""
-    return least(lambda n: (n + 1) * period_ns(khz) > ns)
-
-
-def fewest_clocks(ns, khz):
-    """The fewest clocks that last at least a time."""
-    return least(lambda n: n * period_ns(khz) >= ns)
-
-
-def low_clocks(kind, latency=0, count=0):
-    """Clocks of CE# low, by the edges of the clock: each byte has one, and a clock has two."""
-    opening = ["command", "command", "A3", "A2", "A1", "A0"]
-    if kind == "global-reset":
-        edges = len(opening) + 2
-    else:
-        edges = len(opening) + sum(2 for _ in range(latency)) + count
-    return least(lambda clocks: clocks + clocks >= edges)
-
-
-def read_clocks(latency, count):
-    return low_clocks("read", latency, count)
-
-
-def write_clocks(latency, count):
-    return low_clocks("write", latency, count)
-
-
-def keeps_tcem(clock_range, khz, clocks):
-    return clocks * period_ns(khz) <= TCEM[clock_range]
-
-
-def clock_refused(clock_range, khz):
-    """2 for a clock that no chip takes, 3 where a line of 64 bytes may not be read in one frame."""
-    if khz < 1 or khz > SPEEDS[-1][0] * 1000:
-        return 2
-    worst = read_clocks(latency_of(khz) + latency_of(khz), 64)
-    return None if keeps_tcem(clock_range, khz, worst) else 3
-
-
-def period_ps(khz):
-    """The nearest picosecond; of two as near the later."""
-    exact = Fraction(10**9, khz)
-    near = int(exact)
-    return min(range(near - 1, near + 3), key=lambda ps: (abs(ps - exact), -ps))
-
 
 CLOCKS = [
     0, 1, 10249, 10250, 16667, 25600, 33333, 40999, 41000, 50000, 55555, 55556, 66000,
@@ -204,7 +94,7 @@ def keeps_rows():
 
 def opening_bytes(command, address):
     """The five bytes; None where the address needs more room than the command has for it."""
-    code = CODES[command]
+    code = COMMANDS[command]
     try:
         if command == "global-reset":
             return struct.pack(">B4x", code) if address == 0 else None
@@ -226,60 +116,37 @@ OPENS_NOTHING = """
 
 
 def opening_rows():
-    for command in CODES:
+    for command in COMMANDS:
         for address in ADDRESSES:
             opening = opening_bytes(command, address)
-            row("opening", command, address, hex_of(opening) if opening else "none")
-    for command, code in CODES.items():
+            row("opening", command, address, in_hex(opening) if opening else "none")
+    for command, code in COMMANDS.items():
         for address in (0, 0xFF, 0x804, 0xFFFFFF):
             opening = opening_bytes(command, address)
             if opening:
-                row("opened", "#" + hex_of(opening), [hex_of([code]), address])
+                row("opened", "#" + in_hex(opening), [in_hex([code]), address])
     for text in OPENS_NOTHING.split():
         row("opened", "#" + text, "none")
 
 
-def last_start(length, address):
-    """Where the block of this length begins that an address lies in."""
-    return range(0, address + 1, length)[-1]
-
-
 def place_rows():
-    for make, page in PAGES.items():
+    for make, page in PAGE.items():
         for address in (0, 1023, 1024, 2047, 2048, 0x804, 65536, 0xFFFFFF, U32):
             start = last_start(page, address)
             row("place", make, address, [range(0, start + 1, page).index(start), address - start])
 
 
-def walk(make, burst, start, count):
-    """The addresses of a burst, by an address counter that steps from byte to byte."""
-    page = PAGES[make]
-    page_start = last_start(page, start)
+def addresses_of(page, burst, start, count):
+    """The addresses of a burst by its name."""
     order, _, block = burst.partition("-")
-    length = page if block in ("", "page") else int(block)
-    block_start = last_start(length, start)
-    once = order == "hybrid" and length != page
-    counter = start
-    addresses = []
-    for sent in range(1, count + 1):
-        addresses.append(counter)
-        counter += 1
-        if once and sent >= length:
-            # the block is done: on behind it, and at the end of the page to its start
-            if sent == length:
-                counter = block_start + length
-            if counter == page_start + page:
-                counter = page_start
-        elif counter == block_start + length:
-            counter = block_start
-    return addresses
+    return walk(page, order == "hybrid", block_length(block or "page", page), start, count)
 
 
 def burst_rows():
-    for make, page in PAGES.items():
+    for make, page in PAGE.items():
         for burst in BURSTS:
             block = burst.partition("-")[2]
-            length = int(block) if block.isdigit() else page
+            length = block_length(block or "page", page)
             windows = [
                 (2, 0, 18),
                 (page + length - 1, length - 2, 5),
@@ -287,7 +154,7 @@ def burst_rows():
                 (U32 - 1, length - 1, 3),
             ]
             for start, first, count in windows:
-                addresses = walk(make, burst, start, first + count)[first:]
+                addresses = addresses_of(page, burst, start, first + count)[first:]
                 row("burst", make, burst, start, first, count, addresses)
 
 
@@ -307,36 +174,27 @@ def low_row(often, resets, frame, clocks):
 def low_rows():
     for latency in (3, 6, 10):
         for count in (0, 1, 2, 1038):
-            low_row(1, 0, ["read", latency, count], read_clocks(latency, count))
+            low_row(1, 0, ["read", latency, count], low_clocks("read", latency, count))
     for latency, name in LATENCIES.items():
         for count in (1, 2, 251):
-            low_row(1, 0, ["write", name, count], write_clocks(latency, count))
+            low_row(1, 0, ["write", name, count], low_clocks("write", latency, count))
         low_row(1, 0, ["register-read", name], low_clocks("register-read", latency, 2))
     low_row(1, 0, ["register-write"], low_clocks("register-write", 1, 2))
     low_row(1, 0, ["global-reset"], low_clocks("global-reset"))
     low_row(0, 0, ["global-reset"], low_clocks("global-reset"))
-    low_row(4, 1, ["read", 10, 1038], read_clocks(10, 1038))
-    low_row(3, 2, ["write", "five", 250], write_clocks(5, 250))
+    low_row(4, 1, ["read", 10, 1038], low_clocks("read", 10, 1038))
+    low_row(3, 2, ["write", "five", 250], low_clocks("write", 5, 250))
     low_row(2, 1, ["register-write"], low_clocks("register-write", 1, 2))
     # the sum is held at 64 bits
-    low_row(1, 2, ["read", 10, U64], read_clocks(10, U64))
-    low_row(2, 0, ["read", 6, U64], read_clocks(6, U64))
-    low_row(3, 5, ["write", "four", U64 - 1], write_clocks(4, U64 - 1))
+    low_row(1, 2, ["read", 10, U64], low_clocks("read", 10, U64))
+    low_row(2, 0, ["read", 6, U64], low_clocks("read", 6, U64))
+    low_row(3, 5, ["write", "four", U64 - 1], low_clocks("write", 4, U64 - 1))
 
 
 # Masks
 
 MASKS = [b"", b"\x00", b"\x02", b"\x80", b"\xff", b"\x01\x80", b"\xff\x7f",
          b"\x10\x32\x54\x76\x98\xba\xdc\xfe", b"\x00" * 9 + b"\x40"]
-
-
-def mask_bits(mask):
-    """One flag for each byte of a write, the lowest bit of each byte of the mask first."""
-    return [digit == "1" for byte in mask for digit in reversed(f"{byte:08b}")]
-
-
-def hex_of(data):
-    return bytes(data).hex().upper()
 
 
 def mask_rows():
@@ -346,18 +204,13 @@ def mask_rows():
         for length, byte in ((0, 1), (7, 7), (last - 1, last - 1), (last, last), (U64, U64 - 1)):
             if length < 0:
                 continue
-            size = least(lambda size: size * 8 >= length)
+            size = mask_size(length)
             masked = byte < last and bits[byte]
-            row("mask", length, byte, "#" + hex_of(mask),
+            row("mask", length, byte, "#" + in_hex(mask),
                 [size, yes_or_no(any(bits[length:])), bits.count(True), yes_or_no(masked)])
 
 
 # Mode registers
-
-READ_CODES = {"000": 3, "001": 4, "010": 5}
-WRITE_CODES = {"000": 3, "100": 4, "010": 5}
-BLOCK_CODES = {"00": "16", "01": "32", "10": "64", "11": "page"}
-
 
 def mr0_meaning(value):
     bits = f"{value:08b}"
@@ -391,16 +244,7 @@ def ends(addresses):
 
 def mr8_meaning(value):
     bits = f"{value:08b}"
-    return ("hybrid-" if bits[5] == "1" else "wrapped-") + BLOCK_CODES[bits[6:]]
-
-
-def accepted():
-    """The values that each register takes, from the codes that are not reserved."""
-    mr0 = {"00" + kind + code + drive for kind in "01" for code in READ_CODES
-           for drive in ("00", "01", "10", "11")}
-    mr4 = {code + "00" + part for code in WRITE_CODES for part in COVERAGES}
-    mr8 = {"00000" + hybrid + block for hybrid in "01" for block in BLOCK_CODES}
-    return {0: mr0, 4: mr4, 8: mr8}
+    return ("hybrid-" if bits[5] == "1" else "wrapped-") + BLOCKS[bits[6:]]
 
 
 def register_rows():
@@ -409,14 +253,15 @@ def register_rows():
         kept = ends(part_of(coverage, 8))
         row("meaning", f"{value:02X}h",
             mr0_meaning(value) + [latency] + kept + [mr8_meaning(value)])
-    takes = accepted()
+    takes = taken()
     for number in (0, 1, 2, 3, 4, 5, 8, 9, 255):
         values = [f"{v:02X}" for v in range(256) if f"{v:08b}" in takes.get(number, ())]
         row("accepts", f"{number:02X}h", values or "none")
     for number in list(range(13)) + [255]:
         for make, held in AFTER_RESET.items():
             row("access", make, f"{number:02X}h",
-                [yes_or_no(number in held), yes_or_no(number in takes), held.get(number, "none")])
+                [yes_or_no(number in held), yes_or_no(number in takes),
+                 in_hex([held[number]]) if number in held else "none"])
 
 
 def code_for(codes, wanted):
@@ -436,7 +281,7 @@ def setting_rows():
                 mr0 = "00" + bit + code_for(READ_CODES, latency) + low
                 mr4 = code_for(WRITE_CODES, latency) + "00" + part
                 row("settings", clock_range, khz, kind, drive, name,
-                    [hex_of([int(mr0, 2)]), hex_of([int(mr4, 2)])])
+                    [in_hex([int(mr0, 2)]), in_hex([int(mr4, 2)])])
     for line, value in (("line-16", "00"), ("line-32", "01"), ("line-64", "02")):
         row("settings", line, value)
     for value in (0, 3, 5, 6):
@@ -458,8 +303,8 @@ def kept_rows():
 def frame_clocks(direction, latency, count):
     """The low clocks at worst: a read may take the latency twice."""
     if direction == "read":
-        return read_clocks(latency + latency, count)
-    return write_clocks(latency, count)
+        return low_clocks("read", latency + latency, count)
+    return low_clocks("write", latency, count)
 
 
 class Splitting:
@@ -467,7 +312,7 @@ class Splitting:
 
     def __init__(self, direction, make, clock_range, khz, latency):
         self.words = [direction, make, clock_range, khz, LATENCIES[latency]]
-        self.page = PAGES[make]
+        self.page = PAGE[make]
         lengths = [0]
         while keeps_tcem(clock_range, khz, frame_clocks(direction, latency, lengths[-1] + 2)):
             lengths.append(lengths[-1] + 2)
@@ -565,7 +410,7 @@ def rounded_rows():
 
 def script(chip="A", pages=2, khz=133000, clock_range=NORMAL, refresh=2, strobes=0, stack="P",
            key=b""):
-    fields = struct.pack(">cHIcIHc", chip.encode("latin-1"), pages, khz,
+    fields = OPENING.pack(chip.encode("latin-1"), pages, khz,
                          clock_range.encode("latin-1"), refresh, strobes, stack.encode("latin-1"))
     return fields + key
 
@@ -580,7 +425,7 @@ def script_row(behind, **fields):
     values = dict(chip="A", pages=2, khz=133000, clock_range=NORMAL, refresh=2, strobes=0,
                   stack="P", key=b"")
     values.update(fields)
-    text = "#" + hex_of(script(**values) + behind)
+    text = "#" + in_hex(script(**values) + behind)
     refused = clock_refused(values["clock_range"], values["khz"])
     if refused:
         row("script", text, f"! {refused:02d} @0 chip")
@@ -588,15 +433,15 @@ def script_row(behind, **fields):
         return
     tcem = most_clocks(TCEM[values["clock_range"]], values["khz"])
     key = values["key"] or bytes(16)
-    row("script", text, [PAGES[values["chip"]], values["pages"], values["khz"], tcem,
+    row("script", text, [PAGE[values["chip"]], values["pages"], values["khz"], tcem,
                          values["refresh"], values["strobes"], len(script(**values)),
-                         hex_of(key)])
+                         in_hex(key)])
     row("report", text, [values["chip"], values["pages"], values["khz"],
                          period_ps(values["khz"])])
 
 
 def bad_setup(data):
-    row("script", "#" + hex_of(data), BAD_SETUP)
+    row("script", "#" + in_hex(data), BAD_SETUP)
 
 
 def script_rows():
@@ -637,12 +482,12 @@ def bad_script_rows():
     bad_setup(script(stack="Q", khz=10249))
     bad_setup(script(pages=1, khz=0, stack="K", key=KEY))
     bad_setup(script(khz=10249, stack="K", key=KEY[:15]))
-    row("report", "#" + hex_of(script()[:14]), "! 01 @0")
+    row("report", "#" + in_hex(script()[:14]), "! 01 @0")
     row("report", "#", "! 01 @0")
-    # 32,768 bytes at most
-    plain = [1024, 2, 133000, 532, 2, 0, 15, hex_of(bytes(16))]
-    for total, answer in ((16, plain), (32768, plain), (32769, BAD_SETUP)):
-        row("script", f"#{hex_of(script())}+{total - len(script())}", answer)
+    # the longest script
+    plain = [1024, 2, 133000, 532, 2, 0, 15, in_hex(bytes(16))]
+    for total, answer in ((16, plain), (LONGEST, plain), (LONGEST + 1, BAD_SETUP)):
+        row("script", f"#{in_hex(script())}+{total - len(script())}", answer)
 
 
 def refusal_rows():

@@ -4,6 +4,8 @@ Writes crates/script_table/stdout's text to standard output.
 
 A script is taken byte by byte, by a reader that knows how many bytes it still wants."""
 
+from sheet import LONGEST, in_hex, mask_size
+
 PLAIN = bytes.fromhex("41 0002 00020788 4E 00000002 0000 50")
 WHOLE = (
     bytes.fromhex("53 0010 0001F400 58 80000001 1234 4B")
@@ -14,8 +16,6 @@ WHOLE = (
     + bytes.fromhex("4C 01 50 07 51 08 5A")
     + bytes.fromhex("52 FFFFFF FFFF")
 )
-LONGEST = 32768
-
 # What follows each letter: how many bytes in each operand.
 OPERANDS = {"R": (3, 2), "W": (3, 2), "F": (3, 1), "L": (1,), "P": (1,), "Q": (1,), "Z": ()}
 
@@ -59,15 +59,11 @@ def commands(data):
             body, mask = [], []
             if letter == "W":
                 body = reader.take(operands[1])
-                mask = reader.take(len(range(0, operands[1], 8)))
+                mask = reader.take(mask_size(operands[1]))
         except End:
             return found, (5, place)
         found.append((place, letter, operands, body, mask))
     return found, None
-
-
-def in_hex(data):
-    return "".join(f"{byte:02X}" for byte in data)
 
 
 def words(place, letter, operands, body, mask):
@@ -112,8 +108,7 @@ def counts(data):
 
 
 def write(length, cut):
-    whole = b"W\0\0\0" + bytes([length // 256, length % 256]) + bytes(length)
-    whole += bytes(len(range(0, length, 8)))
+    whole = b"W\0\0\0" + bytes([length // 256, length % 256]) + bytes(length + mask_size(length))
     counts(whole[:len(whole) - cut])
 
 
