@@ -1,86 +1,93 @@
-// One sequence of frames over four chips: a model of each make, bare and below a window and a
-// scrambler. The opening bytes are those of the frames as they are called.
+// Sequences of frames over the models of both makes, bare and below a window and a scrambler. The
+// opening bytes are those of the frames as they are called.
+//
+// What is sent is read from standard input, a line each. Lines that are blank or begin with # say
+// nothing. A line that is not understood ends the program with an error.
+//
+//     list NAME             begins a list of steps; its lines are indented
+//     title TEXT            prints a title
+//     play NAME on CHIP     plays a list on a new chip
+//
+// A step is one of these:
+//
+//     after GAP read COUNT at START BURST
+//     after GAP write DATA mask MASK at START BURST
+//     after GAP read MRn
+//     after GAP write MRn with VALUE
+//     after GAP wake
+//     pulse of LENGTH
+//     pages                             prints how many pages there are
+//     refreshed by the bottom half      prints which pages are
+//     counts                            prints the counts of the chip
+//
+// Data are text. A mask and a chip are in hexadecimal, a chip as the opening of a script. A burst is
+// linear, or wrapped- or hybrid- and 16, 32, 64 or page. `amounts` says what amounts are.
 #![tactic(auto)]
 
+mod amounts;
+mod chips;
 mod steps;
 mod trace;
 
-use chip::Chip;
-use clock::TemperatureRange;
-use fault::{Fault, Returned};
-use layers::{Scrambler, Window};
-use model::{Model, Part, PartA, PartS};
-use std::alloc::AllocError;
+use anyhow::bail;
+use chips::{model, opening_of, refused};
+use frame::Make;
+use layers::Scrambler;
+use model::{Part, PartA, PartS};
+use script::{Opening, Stack};
 use std::io;
-use trace::trace;
+use trace::play_list;
 
-const KHZ: u32 = 133_000;
-
-// The second and the sixth read of variable latency meet a refresh.
-const WORD: u32 = 0x0000_0022;
-
-// So many reads are answered before the strobe goes.
-const STROBES: u16 = 10;
-
-const PAGES: usize = 4;
-
-const KEY: [u8; 16] = *b"0123456789@[]{}~";
-
-// Why the trace stops before its end. `refusal_table` has one like it: to share it the two would need a
-// crate, and one name for what a refusal means to each.
-enum Stop {
-    Refused(Fault),
-    Io(io::Error),
-}
-
-impl<T: Drop> From<Returned<T>> for Stop {
-    fn from(back: Returned<T>) -> Stop {
-        Stop::Refused(back.fault)
-    }
-}
-
-impl From<io::Error> for Stop {
-    fn from(e: io::Error) -> Stop {
-        Stop::Io(e)
-    }
-}
-
-impl From<AllocError> for Stop {
-    fn from(e: AllocError) -> Stop {
-        Stop::Io(io::Error::from(e))
-    }
-}
-
-// A model of a part.
-fn model<P: Part>(rt: &HostRuntime) -> Result<Model<P>, Stop> {
-    let store = vec![in rt.alloc(); 0; PAGES * P::MAKE.page() as usize]?;
-    Ok(Model::new(store, KHZ, TemperatureRange::Normal, WORD, STROBES)?)
-}
-
-fn traces(rt: &HostRuntime) -> Result<(), Stop> {
-    println!(rt; "model A")?;
-    trace(rt, &mut model::<PartA>(rt)?)?;
-    println!(rt; "model S")?;
-    trace(rt, &mut model::<PartS>(rt)?)?;
-    println!(rt; "scrambler over a window over model A")?;
-    trace(
-        rt,
-        &mut Scrambler::over_window(model::<PartA>(rt)?, 1, KEY)?,
-    )?;
-    println!(rt; "scrambler over a window over model S")?;
-    trace(
-        rt,
-        &mut Scrambler::over_window(model::<PartS>(rt)?, 1, KEY)?,
-    )?;
-    Ok(())
-}
-
-fn main(rt: HostRuntime) -> io::Result<()> {
-    match traces(&rt) {
-        Ok(()) => Ok(()),
-        Err(Stop::Refused(fault)) => {
-            println!(rt; "  refused by {}", fault.refusal.details().number)
+// Plays a list on a chip of a part, bare or below the layers of its opening.
+fn play<P: Part>(
+    rt: &HostRuntime,
+    opening: &Opening,
+    input: &str,
+    list: &str,
+) -> anyhow::Result<()> {
+    let mut chip = model::<P>(rt.alloc(), opening)?;
+    match opening.stack {
+        Stack::Plain => play_list(rt, &mut chip, input, list),
+        Stack::Keyed(key) => {
+            let mut stack = Scrambler::over_window(chip, 1, key).map_err(|back| refused(
+                back.fault.refusal,
+            ))?;
+            play_list(rt, &mut stack, input, list)
         }
-        Err(Stop::Io(e)) => Err(e),
     }
+}
+
+// One line that stands in no list.
+fn run(rt: &HostRuntime, input: &str, line: &str) -> anyhow::Result<()> {
+    if line.is_empty() || line.starts_with('#') {
+        return Ok(());
+    }
+    if let Some(title) = line.strip_prefix("title ") {
+        println!(rt; "{title}")?;
+        return Ok(());
+    }
+    let words: Vec<&str> = line.split_whitespace().collect(rt.alloc())?;
+    match words.as_slice() {
+        ["list", _] => Ok(()),
+        ["play", list, "on", opening @ ..] => {
+            let opening = opening_of(rt.alloc(), opening)?;
+            match opening.make {
+                Make::A => play::<PartA>(rt, &opening, input, list),
+                Make::S => play::<PartS>(rt, &opening, input, list),
+            }
+        }
+        _ => bail!("not understood: {line}"),
+    }
+}
+
+fn main(rt: HostRuntime) -> anyhow::Result<()> {
+    let input = io::read_to_string(rt.alloc(), rt.stdin())?;
+    let mut listed = false;
+    for line in input.as_str().lines() {
+        listed = listed || line.starts_with("list ");
+        if !listed || !line.starts_with(' ') {
+            run(&rt, input.as_str(), line)?;
+        }
+    }
+    Ok(())
 }

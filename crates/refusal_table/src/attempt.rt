@@ -1,6 +1,8 @@
 // Trying a case on a chip, and its line: the answer, and whether the chip's state and the buffer
 // stayed as they were.
+use crate::amounts::Amounts;
 use crate::cases::{Case, Try};
+use anyhow::{Context, ensure};
 use chip::{Chip, Frame, Reply};
 use fault::Fault;
 use frame::Burst;
@@ -11,7 +13,7 @@ const FILL: u8 = 0xee;
 
 const DATA: u8 = 0x5a;
 
-// The number of a refusal, its place, and the bytes that are good (`bus_trace` words them apart).
+// The number of a refusal, its place, and the bytes that are good.
 #[derive(Clone, Copy)]
 pub struct Refused(pub Fault);
 
@@ -36,7 +38,7 @@ fn attempt<C: Chip>(rt: &HostRuntime, chip: &mut C, case: Case) -> io::Result<()
     let burst = Burst::Linear;
     // what is no read gets a buffer too
     let bytes = match what {
-        Try::Read { bytes, .. } => bytes,
+        Try::Read { bytes, .. } => bytes as usize,
         _ => 4,
     };
     let mut buffer = vec![in rt.alloc(); FILL; bytes]?;
@@ -48,8 +50,8 @@ fn attempt<C: Chip>(rt: &HostRuntime, chip: &mut C, case: Case) -> io::Result<()
             bytes,
             masks,
         } => {
-            let data = vec![in rt.alloc(); DATA; bytes]?;
-            let mask = vec![in rt.alloc(); 0; masks]?;
+            let data = vec![in rt.alloc(); DATA; bytes as usize]?;
+            let mask = vec![in rt.alloc(); 0; masks as usize]?;
             let frame = Frame::Write {
                 burst,
                 start,
@@ -79,9 +81,58 @@ fn attempt<C: Chip>(rt: &HostRuntime, chip: &mut C, case: Case) -> io::Result<()
     println!(rt; "; state {state}, buffer {buffer}")
 }
 
-pub fn attempt_all<C: Chip>(rt: &HostRuntime, chip: &mut C, cases: &[Case]) -> io::Result<()> {
-    for case in cases {
-        attempt(rt, chip, *case)?;
+// One line of a list.
+fn attempt_line<C: Chip>(
+    rt: &HostRuntime,
+    chip: &mut C,
+    amounts: &Amounts,
+    line: &str,
+) -> anyhow::Result<()> {
+    if line.starts_with('#') {
+        return Ok(());
     }
+    if let Some(title) = line.strip_prefix("title ") {
+        println!(rt; " {title}")?;
+        return Ok(());
+    }
+    let words: Vec<&str> = line.split_whitespace().collect(rt.alloc())?;
+    let case = Case::read(words.as_slice(), amounts).context(format_args!(
+        "not understood: {line}"
+    ))?;
+    attempt(rt, chip, case)?;
     Ok(())
+}
+
+// A list of cases in the input.
+#[derive(Clone, Copy)]
+pub struct List<'a> {
+    pub input: &'a str,
+    pub name: &'a str,
+    pub longest: Option<u32>,
+    pub widest: Option<u32>,
+}
+
+impl List<'_> {
+    // Tries each case of the list on a chip.
+    pub fn attempt<C: Chip>(&self, rt: &HostRuntime, chip: &mut C) -> anyhow::Result<()> {
+        let config = chip.config();
+        let amounts = Amounts {
+            clock: config.clock,
+            size: config.pages.saturating_mul(config.make.page()),
+            longest: self.longest,
+            widest: self.widest,
+        };
+        let mut found = false;
+        let mut inside = false;
+        for line in self.input.lines() {
+            if let Some(name) = line.strip_prefix("list ") {
+                inside = name == self.name;
+                found = found || inside;
+            } else if inside && line.starts_with(' ') {
+                attempt_line(rt, chip, &amounts, line.trim_start())?;
+            }
+        }
+        ensure!(found, "no list {}", self.name);
+        Ok(())
+    }
 }

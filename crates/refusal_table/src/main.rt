@@ -1,146 +1,141 @@
-// What a chip refuses, by 13 to 20, one step to each side of every edge: on the models, and
-// through a scrambler over a window.
+// What a chip refuses, by 13 to 20, one step to each side of every edge: on the models, and through a
+// scrambler over a window.
+//
+// The cases are read from standard input, one a line. Lines that are blank or begin with # say
+// nothing. A line that is not understood ends the program with an error.
+//
+//     list NAME                begins a list of cases; its lines are indented
+//     title TEXT               prints a title, in a list and outside
+//     play NAME on CHIP        tries the cases of a list on a new chip
+//     play NAME longest COUNT widest COUNT on CHIP
+//                              the same, with the longest read and write of a list that speaks of them
+//     hide PAGES on CHIP       makes a window that hides so many pages of a new chip
+//
+// A case is one of these; a write without a mask has one of the right size, of zeros:
+//
+//     after GAP read COUNT at START
+//     after GAP write COUNT at START
+//     after GAP write COUNT at START mask of SIZE
+//     after GAP read MRn
+//     after GAP write MRn with VALUE
+//     after GAP wake
+//     pulse of LENGTH
+//
+// A chip is the opening of a script, in hexadecimal; `amounts` says what amounts are.
 #![tactic(auto)]
 
+mod amounts;
 mod attempt;
 mod cases;
-mod tables;
+mod chips;
 
-use attempt::{Refused, stayed};
+use anyhow::bail;
+use attempt::{List, Refused, stayed};
 use chip::Chip;
-use clock::TemperatureRange;
-use fault::{Fault, Returned};
+use chips::{model, opening_of, refused};
+use frame::Make;
 use layers::{Scrambler, Window};
-use model::{Model, Part, PartA, PartS};
-use std::alloc::AllocError;
+use model::{Part, PartA, PartS};
+use script::{Opening, Stack};
 use std::io;
-use tables::{lengths, most, strobes};
 
-const PAGES: usize = 2;
-
-const KEY: [u8; 16] = [
-    0x10, 0x21, 0x32, 0x43, 0x54, 0x65, 0x76, 0x87, 0x98, 0xa9, 0xba, 0xcb, 0xdc, 0xed, 0xfe, 0x0f,
-];
-
-// What a model is made with.
-#[derive(Clone, Copy)]
-struct Subject {
-    khz: u32,
-    range: TemperatureRange,
-    strobes: u16,
-}
-
-const FAST: Subject = Subject {
-    khz: 133_000,
-    range: TemperatureRange::Normal,
-    strobes: 0,
-};
-
-const HOT: Subject = Subject {
-    range: TemperatureRange::Extended,
-    ..FAST
-};
-
-const SLOW: Subject = Subject {
-    khz: 10_250,
-    ..FAST
-};
-
-// Two reads are answered.
-const FAILING: Subject = Subject { strobes: 2, ..FAST };
-
-// Why the tables stop before their end. `bus_trace` has one like it: to share it the two would need a
-// crate, and one name for what a refusal means to each.
-enum Stop {
-    Unmade(Fault),
-    Io(io::Error),
-}
-
-impl<T: Drop> From<Returned<T>> for Stop {
-    fn from(back: Returned<T>) -> Stop {
-        Stop::Unmade(back.fault)
-    }
-}
-
-impl From<io::Error> for Stop {
-    fn from(e: io::Error) -> Stop {
-        Stop::Io(e)
-    }
-}
-
-impl From<AllocError> for Stop {
-    fn from(e: AllocError) -> Stop {
-        Stop::Io(io::Error::from(e))
-    }
-}
-
-// A model of a part.
-fn model<P: Part>(rt: &HostRuntime, subject: Subject) -> Result<Model<P>, Stop> {
-    let Subject {
-        khz,
-        range,
-        strobes,
-    } = subject;
-    let store = vec![in rt.alloc(); 0; PAGES * P::MAKE.page() as usize]?;
-    Ok(Model::new(store, khz, range, 0, strobes)?)
-}
-
-fn window<C: Chip + Drop>(rt: &HostRuntime, chip: C, hidden: u32) -> io::Result<()> {
-    let before = chip.state();
-    print!(rt; "  hide {hidden} of {}: ", chip.config().pages)?;
-    match Window::new(chip, hidden) {
-        Ok(window) => println!(rt; "{} left", window.config().pages),
-        Err(back) => {
-            let state = stayed(before == back.value.state());
-            println!(rt; "{}; state {state}", Refused(back.fault))
+// Tries a list on a chip of a part, bare or below the layers of its opening.
+fn play<P: Part>(rt: &HostRuntime, opening: &Opening, list: List<'_>) -> anyhow::Result<()> {
+    let mut chip = model::<P>(rt.alloc(), opening)?;
+    match opening.stack {
+        Stack::Plain => list.attempt(rt, &mut chip),
+        Stack::Keyed(key) => {
+            let mut stack = Scrambler::over_window(chip, 1, key).map_err(|back| refused(
+                back.fault.refusal,
+            ))?;
+            list.attempt(rt, &mut stack)
         }
     }
 }
 
-fn tables_of<P: Part>(rt: &HostRuntime) -> Result<(), Stop> {
-    println!(rt; "bare, 133,000 kHz, normal range")?;
-    most(rt, &mut model::<P>(rt, FAST)?)?;
-    lengths(rt, &mut model::<P>(rt, FAST)?, 1_038, 1_048)?;
-    println!(rt; "scrambler over a window of 1 page, 133,000 kHz, normal range")?;
-    most(
-        rt,
-        &mut Scrambler::over_window(model::<P>(rt, FAST)?, 1, KEY)?,
-    )?;
-    lengths(
-        rt,
-        &mut Scrambler::over_window(model::<P>(rt, FAST)?, 1, KEY)?,
-        1_038,
-        1_048,
-    )?;
-    println!(rt; "bare, 133,000 kHz, extended range")?;
-    lengths(rt, &mut model::<P>(rt, HOT)?, 240, 250)?;
-    println!(rt; "bare, 10,250 kHz, normal range")?;
-    lengths(rt, &mut model::<P>(rt, SLOW)?, 56, 66)?;
-    println!(rt; "bare, two reads answered")?;
-    strobes(rt, &mut model::<P>(rt, FAILING)?)?;
-    println!(rt; "scrambler over a window of 1 page, two reads answered")?;
-    strobes(
-        rt,
-        &mut Scrambler::over_window(model::<P>(rt, FAILING)?, 1, KEY)?,
-    )?;
-    println!(rt; "windows")?;
-    for hidden in [0, 1, 2, 3, u32::MAX] {
-        window(rt, model::<P>(rt, FAST)?, hidden)?;
+fn play_on(rt: &HostRuntime, opening: &[&str], list: List<'_>) -> anyhow::Result<()> {
+    let opening = opening_of(rt.alloc(), opening)?;
+    match opening.make {
+        Make::A => play::<PartA>(rt, &opening, list),
+        Make::S => play::<PartS>(rt, &opening, list),
+    }
+}
+
+// Makes a window over a chip of a part.
+fn hide<P: Part>(rt: &HostRuntime, opening: &Opening, hidden: u32) -> anyhow::Result<()> {
+    let chip = model::<P>(rt.alloc(), opening)?;
+    let before = chip.state();
+    print!(rt; "  hide {hidden} of {}: ", chip.config().pages)?;
+    match Window::new(chip, hidden) {
+        Ok(window) => println!(rt; "{} left", window.config().pages)?,
+        Err(back) => {
+            let state = stayed(before == back.value.state());
+            println!(rt; "{}; state {state}", Refused(back.fault))?;
+        }
     }
     Ok(())
 }
 
-fn both_makes(rt: &HostRuntime) -> Result<(), Stop> {
-    println!(rt; "model A")?;
-    tables_of::<PartA>(rt)?;
-    println!(rt; "model S")?;
-    tables_of::<PartS>(rt)
+fn hide_on(rt: &HostRuntime, opening: &[&str], hidden: u32) -> anyhow::Result<()> {
+    let opening = opening_of(rt.alloc(), opening)?;
+    match opening.make {
+        Make::A => hide::<PartA>(rt, &opening, hidden),
+        Make::S => hide::<PartS>(rt, &opening, hidden),
+    }
 }
 
-fn main(rt: HostRuntime) -> io::Result<()> {
-    match both_makes(&rt) {
-        Ok(()) => Ok(()),
-        Err(Stop::Unmade(fault)) => println!(rt; "  no chip: {}", Refused(fault)),
-        Err(Stop::Io(e)) => Err(e),
+// One line that stands in no list.
+fn run(rt: &HostRuntime, input: &str, line: &str) -> anyhow::Result<()> {
+    if line.is_empty() || line.starts_with('#') {
+        return Ok(());
     }
+    if let Some(title) = line.strip_prefix("title ") {
+        println!(rt; "{title}")?;
+        return Ok(());
+    }
+    let words: Vec<&str> = line.split_whitespace().collect(rt.alloc())?;
+    match words.as_slice() {
+        ["list", _] => Ok(()),
+        ["play", name, "on", opening @ ..] => {
+            let list = List {
+                input,
+                name,
+                longest: None,
+                widest: None,
+            };
+            play_on(rt, opening, list)
+        }
+        [
+            "play",
+            name,
+            "longest",
+            longest,
+            "widest",
+            widest,
+            "on",
+            opening @ ..,
+        ] => {
+            let list = List {
+                input,
+                name,
+                longest: Some(longest.parse()?),
+                widest: Some(widest.parse()?),
+            };
+            play_on(rt, opening, list)
+        }
+        ["hide", hidden, "on", opening @ ..] => hide_on(rt, opening, hidden.parse()?),
+        _ => bail!("not understood: {line}"),
+    }
+}
+
+fn main(rt: HostRuntime) -> anyhow::Result<()> {
+    let input = io::read_to_string(rt.alloc(), rt.stdin())?;
+    let mut listed = false;
+    for line in input.as_str().lines() {
+        listed = listed || line.starts_with("list ");
+        if !listed || !line.starts_with(' ') {
+            run(&rt, input.as_str(), line)?;
+        }
+    }
+    Ok(())
 }
