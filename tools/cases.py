@@ -1,21 +1,25 @@
 """Reads the cases of refusal_table and bus_trace: the file stdin of each program, with its lists of cases and the chips
 that they are tried on, and the words for amounts that depend on the chip."""
+from pathlib import Path
+
 from little_chip import Chip, Stack
 from sheet import OPENING, TCPH, TPU, TRP, TRST, fewest_clocks
+
+CRATES = Path(__file__).parent.parent / "crates"
 
 
 def read(program):
     """The cases of each list by its name, and the lines that stand in no list, all as words."""
     lists, lines = {}, []
-    with open(f"crates/{program}/stdin", encoding="ascii") as file:
+    with open(CRATES / program / "stdin", encoding="ascii") as file:
         for line in file:
             words = line.split()
             if not words or words[0].startswith("#"):
                 continue
-            if words[0] == "list":
-                cases = lists[words[1]] = []
-            elif line.startswith(" "):
+            if line.startswith(" "):
                 cases.append(words)
+            elif words[0] == "list":
+                cases = lists[words[1]] = []
             else:
                 lines.append(words)
     return lists, lines

@@ -1,10 +1,10 @@
 // Sequences of frames over the models of both makes, bare and below a window and a scrambler. The
 // opening bytes are those of the frames as they are called.
 //
-// What is sent is read from standard input, a line each. Lines that are blank or begin with # say
+// What is sent is read from standard input, a line each. Blank lines and those that begin with # say
 // nothing. A line that is not understood ends the program with an error.
 //
-//     list NAME             begins a list of steps; its lines are indented
+//     list NAME             begins a list of steps; its lines are indented, and read where it is played
 //     title TEXT            prints a title
 //     play NAME on CHIP     plays a list on a new chip
 //
@@ -21,7 +21,7 @@
 //     counts                            prints the counts of the chip
 //
 // Data are text. A mask and a chip are in hexadecimal, a chip as the opening of a script. A burst is
-// linear, or wrapped- or hybrid- and 16, 32, 64 or page. `amounts` says what amounts are.
+// linear, or wrapped- or hybrid- and 16, 32, 64 or page. `Amounts` says how numbers are written.
 #![tactic(auto)]
 
 mod amounts;
@@ -29,7 +29,7 @@ mod chips;
 mod steps;
 mod trace;
 
-use anyhow::bail;
+use anyhow::{bail, ensure};
 use chips::{model, opening_of, refused};
 use frame::Make;
 use layers::Scrambler;
@@ -85,7 +85,9 @@ fn main(rt: HostRuntime) -> anyhow::Result<()> {
     let mut listed = false;
     for line in input.as_str().lines() {
         listed = listed || line.starts_with("list ");
-        if !listed || !line.starts_with(' ') {
+        if line.starts_with(' ') {
+            ensure!(listed, "not understood: {line}");
+        } else {
             run(&rt, input.as_str(), line)?;
         }
     }

@@ -121,7 +121,7 @@ fn play_line<C: Chip>(
     amounts: &Amounts,
     line: &str,
 ) -> anyhow::Result<()> {
-    if line.starts_with('#') {
+    if line.is_empty() || line.starts_with('#') {
         return Ok(());
     }
     let words: Vec<&str> = line.split_whitespace().collect(rt.alloc())?;

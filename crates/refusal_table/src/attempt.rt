@@ -88,7 +88,7 @@ fn attempt_line<C: Chip>(
     amounts: &Amounts,
     line: &str,
 ) -> anyhow::Result<()> {
-    if line.starts_with('#') {
+    if line.is_empty() || line.starts_with('#') {
         return Ok(());
     }
     if let Some(title) = line.strip_prefix("title ") {

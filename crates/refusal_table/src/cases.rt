@@ -2,7 +2,7 @@
 use crate::amounts::Amounts;
 use std::fmt;
 
-// What is tried. No `chip::Frame`: a write's data are made when it is tried.
+// What is tried. Memory frames are linear.
 #[derive(Clone, Copy)]
 pub enum Try {
     Read { start: u32, bytes: u32 },

@@ -1,17 +1,17 @@
 // What a chip refuses, by 13 to 20, one step to each side of every edge: on the models, and through a
 // scrambler over a window.
 //
-// The cases are read from standard input, one a line. Lines that are blank or begin with # say
+// The cases are read from standard input, one a line. Blank lines and those that begin with # say
 // nothing. A line that is not understood ends the program with an error.
 //
-//     list NAME                begins a list of cases; its lines are indented
-//     title TEXT               prints a title, in a list and outside
-//     play NAME on CHIP        tries the cases of a list on a new chip
+//     list NAME             begins a list of cases; its lines are indented, and read where it is played
+//     title TEXT            prints a title, in a list and outside
+//     play NAME on CHIP     tries the cases of a list on a new chip
 //     play NAME longest COUNT widest COUNT on CHIP
-//                              the same, with the longest read and write of a list that speaks of them
-//     hide PAGES on CHIP       makes a window that hides so many pages of a new chip
+//                           the same for a list that speaks of the longest read and write, in bytes
+//     hide PAGES on CHIP    makes a window that hides so many pages of a new chip
 //
-// A case is one of these; a write without a mask has one of the right size, of zeros:
+// A case is one of these; a write without a mask has one of the right size:
 //
 //     after GAP read COUNT at START
 //     after GAP write COUNT at START
@@ -21,7 +21,7 @@
 //     after GAP wake
 //     pulse of LENGTH
 //
-// A chip is the opening of a script, in hexadecimal; `amounts` says what amounts are.
+// A chip is the opening of a script, in hexadecimal. `Amounts` says how numbers are written.
 #![tactic(auto)]
 
 mod amounts;
@@ -29,7 +29,7 @@ mod attempt;
 mod cases;
 mod chips;
 
-use anyhow::bail;
+use anyhow::{bail, ensure};
 use attempt::{List, Refused, stayed};
 use chip::Chip;
 use chips::{model, opening_of, refused};
@@ -133,7 +133,9 @@ fn main(rt: HostRuntime) -> anyhow::Result<()> {
     let mut listed = false;
     for line in input.as_str().lines() {
         listed = listed || line.starts_with("list ");
-        if !listed || !line.starts_with(' ') {
+        if line.starts_with(' ') {
+            ensure!(listed, "not understood: {line}");
+        } else {
             run(&rt, input.as_str(), line)?;
         }
     }
