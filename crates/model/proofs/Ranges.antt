@@ -1,10 +1,13 @@
--- A range of addresses that a coverage keeps. Assumes nothing.
-use Rattle.std.proofs.Common.{◌≡◌, ℕ, zero, suc, ◌+◌, ◌<◌, ◌≤◌, true, eqb, ◌||◌, ◌&&◌, ltb, leb, Decides, refl, arith}
+-- A range of addresses that a span covers. Assumes nothing.
+use Rattle.std.proofs.Common.{◌≡◌, ℕ, zero, suc, ◌+◌, ◌<◌, ◌≤◌, true, ◌&&◌, ltb, leb, refl, arith}
 use Rattle.std.proofs.lemmas.Grind.{common_steps}
 
-pub range_kept : (low high from count : ℕ) → Decides (eqb count 0 || (leb low from && leb (from + count) high)) ((a : ℕ) → from ≤ a → a < from + count → (leb low a && ltb a high) ≡ true)
-range_kept low high from zero = (λ yes a i j. absurd (omega arith), λ all. refl)
-range_kept low high from (suc n) = (
+-- where it begins in the span, and is not empty, it is covered exactly when it ends in the span
+pub range_covered : (low high from count : ℕ) → low ≤ from → (count ≡ 0 → ⊥) →
+    (leb (from + count) high ≡ true → (a : ℕ) → from ≤ a → a < from + count → (leb low a && ltb a high) ≡ true)
+    × (((a : ℕ) → from ≤ a → a < from + count → (leb low a && ltb a high) ≡ true) → leb (from + count) high ≡ true)
+range_covered low high from zero begins some = absurd (some refl)
+range_covered low high from (suc n) begins some = (
   λ yes a i j. grind (arith, common_steps),
-  λ all. let first = all from (omega arith) (omega arith) in let last = all (from + n) (omega arith) (omega arith) in grind (arith, common_steps),
+  λ all. let last = all (from + n) (omega arith) (omega arith) in grind (arith, common_steps),
 )

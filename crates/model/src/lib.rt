@@ -1,11 +1,11 @@
-// Models of the two makes of chip, over a store.
-#![tactic(auto, unfolding(chip::specs::Frames::first))]
+//! Models of the two makes of chip, over a store.
+#![tactic(auto, unfolding(chip::specs::Refused::first_refusal))]
 
-mod asks;
+mod config;
 mod device;
-mod make;
-mod models;
-mod step;
-mod whole;
+mod model;
+mod part;
+mod unwoken;
 
-pub use models::{Model, ModelA, ModelS, Part, PartA, PartS};
+pub use model::{Model, ModelA, ModelS};
+pub use part::{Part, PartA, PartS};

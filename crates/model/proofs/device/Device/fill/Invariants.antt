@@ -1,5 +1,5 @@
 use Rattle.std.proofs.Common.{◌≡◌, ℕ, ◌<◌, get_or, vec_items}
-use Rattle.chip.specs.Frames.{address}
+use Rattle.chip.specs.Taken.{address}
 use Rattle.model.proofs.device.Device.fill.Given as goal
 
 abbrev pub invariant-loop-i : goal.invariant-loop-i
