@@ -59,6 +59,7 @@ fresh c store refresh_word strobe_count = record {
 }
 
 -- what a model holds as it is made
-pub record IsFresh (m : Make) (store : List ℕ) (khz : ℕ) (range : TemperatureRange) (refresh_word strobe_count : ℕ) (c : Contents) : Type 0 where
+pub record IsFresh (m : Make) (store : List ℕ) (khz : ℕ) (range : TemperatureRange) (refresh_word strobe_count : ℕ)
+    (c : Contents) : Type 0 where
   pub config : IsConfigFor m (length store) khz range c.config
   pub contents : c ≡ fresh c.config store refresh_word strobe_count

@@ -7,20 +7,22 @@ use Rattle.frame.specs.declared.burst.Burst.{Burst}
 use Rattle.chip.specs.Exact.{OneOutcome}
 use Rattle.chip.specs.Meaning.{size, SameConfig}
 use Rattle.chip.specs.Refused.{refused}
-use Rattle.chip.specs.Sent.{Sent, read, write, register_read, register_write, global_reset, read_bytes}
+use Rattle.chip.specs.Sent.{Sent, read, write, register_read, register_write, global_reset, Answer, read_bytes}
 use Rattle.chip.specs.declared.bus_frame.Reply.{Reply}
 use Rattle.register.specs.Registers.{refreshed_span}
 use Rattle.model.specs.Contents.{Contents, meaning, is_within, SameBuild}
 use Rattle.model.specs.Latency.{strobe_stays}
 use Rattle.model.specs.Store.{burst_bytes}
-use Rattle.model.specs.Step.{outcome_by, step, reset_step, Exactly}
+use Rattle.model.specs.Step.{Outcome, outcome_by, step, Steps, reset_step, Exactly}
 
 -- the buffer before a frame decides neither the contents after it nor the answer
-same_after : (o : Option Refusal) (m : Contents) (f : Sent) (old older : List ℕ) → (outcome_by o m f old).after ≡ (outcome_by o m f older).after
+same_after : (o : Option Refusal) (m : Contents) (f : Sent) (old older : List ℕ) →
+    (outcome_by o m f old).after ≡ (outcome_by o m f older).after
 same_after (Some e) m f old older = refl
 same_after None m f old older = refl
 
-same_answer : (o : Option Refusal) (m : Contents) (f : Sent) (old older : List ℕ) → (outcome_by o m f old).answer ≡ (outcome_by o m f older).answer
+same_answer : (o : Option Refusal) (m : Contents) (f : Sent) (old older : List ℕ) →
+    (outcome_by o m f old).answer ≡ (outcome_by o m f older).answer
 same_answer (Some e) m f old older = refl
 same_answer None m f old older = refl
 
@@ -31,15 +33,21 @@ filled : (there : Bool) (x : Reply) (e : Fault ℕ) (b : Burst) (a n : ℕ) (byt
 filled true x e b a n bytes old older = refl
 filled false x e b a n bytes old older = refl
 
-same_came : (o : Option Refusal) (m : Contents) (f : Sent) (old older : List ℕ) →
-    read_bytes f (outcome_by o m f old).answer (outcome_by o m f old).buffer
-    ≡ read_bytes f (outcome_by o m f older).answer (outcome_by o m f older).buffer
-same_came (Some e) m (read b a n) old older = refl
-same_came None m (read b a n) old older = filled (strobe_stays m) _ _ b a n (burst_bytes m b a n) old older
-same_came o m (write b a d k) old older = refl
-same_came o m (register_read r) old older = refl
-same_came o m (register_write r v) old older = refl
-same_came o m global_reset old older = refl
+abbrev bytes_of : Sent → Outcome → List ℕ
+bytes_of f o = read_bytes f o.answer o.buffer
+
+same_bytes : (o : Option Refusal) (m : Contents) (f : Sent) (old older : List ℕ) →
+    bytes_of f (outcome_by o m f old) ≡ bytes_of f (outcome_by o m f older)
+same_bytes (Some e) m (read b a n) old older = refl
+same_bytes None m (read b a n) old older = filled (strobe_stays m) _ _ b a n (burst_bytes m b a n) old older
+same_bytes o m (write b a d k) old older = refl
+same_bytes o m (register_read r) old older = refl
+same_bytes o m (register_write r v) old older = refl
+same_bytes o m global_reset old older = refl
+
+bytes_by : {m n : Contents} {gap : ℕ} {f : Sent} {old new : List ℕ} {r : Answer} → Steps m gap f old r n new →
+    read_bytes f r new ≡ bytes_of f (step m gap f old)
+bytes_by {f = f} s = λ i. read_bytes f (s.answer i) (s.buffer i)
 
 -- of values that show contents: one outcome, where they show the same
 module _ {X : Type 0} (show : X → Contents) where
@@ -47,17 +55,19 @@ module _ {X : Type 0} (show : X → Contents) where
   one_outcome = record {
     itself = λ c. refl;
     means = λ c d s. ap meaning s;
-    of_frame = λ c d p q gap f old older new newer r s same _ _ fst snd.
+    of_frame = λ c d p q gap f old older new newer r s same _ _ one other.
         let o = refused (show d).config (show d).state gap f in
         record {
-          after = fst.after ∙ ap (λ m. (step m gap f old).after) same ∙ same_after o (show d) f old older ∙ sym snd.after;
-          answer = fst.answer ∙ ap (λ m. (step m gap f old).answer) same ∙ same_answer o (show d) f old older ∙ sym snd.answer;
-          came = (λ i. read_bytes f (fst.answer i) (fst.buffer i)) ∙ ap (λ m. read_bytes f (step m gap f old).answer (step m gap f old).buffer) same ∙ same_came o (show d) f old older ∙ sym (λ i. read_bytes f (snd.answer i) (snd.buffer i));
-          buffer = λ b. fst.buffer ∙ (λ i. (step (same i) gap f (b i)).buffer) ∙ sym snd.buffer;
+          after = one.after ∙ ap (λ m. (step m gap f old).after) same ∙ same_after o (show d) f old older ∙ sym other.after;
+          answer = one.answer ∙ ap (λ m. (step m gap f old).answer) same ∙ same_answer o (show d) f old older
+              ∙ sym other.answer;
+          came = bytes_by one ∙ ap (λ m. bytes_of f (step m gap f old)) same ∙ same_bytes o (show d) f old older
+              ∙ sym (bytes_by other);
+          buffer = λ b. one.buffer ∙ (λ i. (step (same i) gap f (b i)).buffer) ∙ sym other.buffer;
         };
-    of_pulse = λ c d p q pulse r s same fst snd. (
-      fst.after ∙ ap (λ m. (reset_step m pulse).after) same ∙ sym snd.after,
-      fst.answer ∙ ap (λ m. (reset_step m pulse).answer) same ∙ sym snd.answer,
+    of_pulse = λ c d p q pulse r s same one other. (
+      one.after ∙ ap (λ m. (reset_step m pulse).after) same ∙ sym other.after,
+      one.answer ∙ ap (λ m. (reset_step m pulse).answer) same ∙ sym other.answer,
     );
   }
 

@@ -72,7 +72,8 @@ abbrev pub step : Contents → ℕ → Sent → List ℕ → Outcome
 step m gap f old = outcome_by (refused m.config m.state gap f) m f old
 
 -- the contents, the answer and the buffer are those of the step
-pub record Steps (m : Contents) (gap : ℕ) (f : Sent) (old : List ℕ) (r : Answer) (n : Contents) (new : List ℕ) : Type 0 where
+pub record Steps (m : Contents) (gap : ℕ) (f : Sent) (old : List ℕ) (r : Answer) (n : Contents) (new : List ℕ)
+    : Type 0 where
   pub after : n ≡ (step m gap f old).after
   pub answer : r ≡ (step m gap f old).answer
   pub buffer : new ≡ (step m gap f old).buffer

@@ -86,7 +86,7 @@ impl Device {
         let mr0 = Mr0::from(self.state.mr0);
         let variable = strobe && matches!(mr0.latency_type, LatencyType::Variable);
         let least = mr0.lc.clocks();
-        let meets_refresh = (self.refresh_word >> self.variable_reads) % 2 == 1;
+        let meets_refresh = (self.refresh_word >> self.variable_reads) & 1 == 1;
         let latency = if variable && !meets_refresh {
             least
         } else {

@@ -46,14 +46,15 @@ impl<P: Part> Model<P> {
         strobe_count: u16,
     ) -> Result<Model<P>, Returned<Vec<u8>>>
         ensures taken { IsOk result ↔ (refused P.MAKE (length store.items) khz range ≡ None) }
-        ensures fresh { IfOk result (λ m. IsFresh P.MAKE store.items khz range refresh_word strobe_count
-            (contents m.device)) }
-        ensures refused { IfErr result (λ b.
-            refused P.MAKE (length store.items) khz range ≡ Some b.fault.refusal) }
-        ensures by_1 { IfErr result (λ b. ((details b.fault.refusal).number ≡ 1)
+        ensures fresh { IfOk result (λ m.
+            IsFresh P.MAKE store.items khz range refresh_word strobe_count (contents m.device)) }
+        ensures refused { IfErr result (λ back.
+            refused P.MAKE (length store.items) khz range ≡ Some back.fault.refusal) }
+        ensures bad_store { IfErr result (λ back.
+            ((details back.fault.refusal).number ≡ 1)
             ↔ IsTrue (is_bad_store P.MAKE (length store.items))) }
-        ensures place { IfErr result (λ b. b.fault.place ≡ 0) }
-        ensures store { IfErr result (λ b. b.value.items ≡ store.items) }
+        ensures place { IfErr result (λ back. back.fault.place ≡ 0) }
+        ensures same_store { IfErr result (λ back. back.value.items ≡ store.items) }
     {
         match config(P::MAKE, store.len(), khz, range) {
             Ok(config) => Ok(Model {
