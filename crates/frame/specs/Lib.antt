@@ -4,3 +4,4 @@ pub mod Bursts
 pub mod Orders
 pub mod Low
 pub mod Letters
+pub mod Spans

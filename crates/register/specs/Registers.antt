@@ -1,7 +1,9 @@
 -- The mode registers: their fields, and the values that are reserved. Assumes nothing.
 use Rattle.std.specs.Prelude.{ℕ, ◌+◌, ◌-◌, ◌*◌, ◌/◌, ◌%◌, Bool, false, cond, not, ◌||◌, ◌==◌, nat_lt}
+use Rattle.std.proofs.Common.{zero-le, sub-le}
 use Rattle.clock.specs.declared.range.Latency.{Latency}
 use Rattle.clock.specs.declared.range.Latency.TheVariants.{Three, Four, Five}
+use Rattle.frame.specs.Spans.{span_of}
 use Rattle.frame.specs.declared.burst.Block.{Block}
 use Rattle.frame.specs.declared.burst.Block.TheVariants as block
 use Rattle.frame.specs.declared.burst.Burst.{Burst}
@@ -71,17 +73,17 @@ accepts n v =
 
 -- the addresses that a coverage keeps, of a size: a part at the bottom or at the top
 abbrev pub bottom : ℕ → ℕ → Span
-bottom size part = record { from = 0; to = size / part }
+bottom size divisor = record { from = 0; to = size / divisor; ordered = zero-le }
 
 abbrev pub top : ℕ → ℕ → Span
-top size part = record { from = size - size / part; to = size }
+top size divisor = record { from = size - size / divisor; to = size; ordered = sub-le size (size / divisor) }
 
 abbrev pub refreshed_span : Coverage → ℕ → Span
 refreshed_span All size = bottom size 1
 refreshed_span BottomHalf size = bottom size 2
 refreshed_span BottomQuarter size = bottom size 4
 refreshed_span BottomEighth size = bottom size 8
-refreshed_span Nothing size = record { from = 0; to = 0 }
+refreshed_span Nothing size = span_of 0 0
 refreshed_span TopHalf size = top size 2
 refreshed_span TopQuarter size = top size 4
 refreshed_span TopEighth size = top size 8

@@ -91,22 +91,22 @@ impl Mr4 {
 }
 
 // A part of the size at its bottom, and at its top.
-fn bottom(size: u32, part: u32) -> Span
-    requires { 0 < part }
-    ensures { result ≡ bottom size part }
+fn bottom(size: u32, divisor: u32) -> Span
+    requires { 0 < divisor }
+    ensures { result ≡ bottom size divisor }
 {
     Span {
         from: 0,
-        to: size / part,
+        to: size / divisor,
     }
 }
 
-fn top(size: u32, part: u32) -> Span
-    requires { 0 < part }
-    ensures { result ≡ top size part }
+fn top(size: u32, divisor: u32) -> Span
+    requires { 0 < divisor }
+    ensures { result ≡ top size divisor }
 {
     Span {
-        from: size - size / part,
+        from: size - size / divisor,
         to: size,
     }
 }
