@@ -1,3 +1,4 @@
 pub mod Longest
 pub mod Fewest
 pub mod Edges
+pub mod Rounding

@@ -3,6 +3,8 @@ use Rattle.std.proofs.Common.{◌≡◌, ℕ, zero, suc, ◌+◌, ◌-◌, ◌%�
 use Rattle.std.proofs.lemmas.Bool.{cond-true, cond-false, lt-ltb, le-ltb}
 use Rattle.std.proofs.lemmas.Bool.Decides.{nat_tests}
 use Rattle.frame.specs.Pages.{page}
+use Rattle.frame.specs.Spans.{span_of, span_same}
+use Rattle.frame.specs.declared.span.Span.{Span}
 use Rattle.frame.specs.declared.make.Make.{Make}
 use Rattle.frame.specs.declared.make.Make.TheVariants as make
 use Rattle.split.specs.Splits.{fits, next_piece, Lawful, taking, placed, TakesLongest}
@@ -39,8 +41,9 @@ module _ {fit : ℕ → ℕ → Bool} {next : ℕ → ℕ → ℕ} (rule : Takes
       ∙ ap (λ ns. next s e ∷ ns) (enough (e - s) (e - (s + next s e)) (s + next s e) e (omega arith) (omega arith))
 
   -- the same of the pieces in their places
-  pub step_placed : (s e piece : ℕ) → s < e → piece ≡ next s e → placed s (taking next (e - s) s e) ≡ record { from = s; to = s + piece } ∷ placed (s + piece) (taking next (e - (s + piece)) (s + piece) e)
-  step_placed s e piece h is = rw is (ap (placed s) (step s e h))
+  pub step_placed : (s e n : ℕ) (piece : Span) → s < e → n ≡ next s e → piece.from ≡ s → piece.to ≡ s + n → placed s (taking next (e - s) s e) ≡ piece ∷ placed (s + n) (taking next (e - (s + n)) (s + n) e)
+  step_placed s e n piece h is from to =
+      rw is (ap (placed s) (step s e h)) ∙ ap (λ first. first ∷ placed (s + n) (taking next (e - (s + n)) (s + n) e)) (span_same (span_of s n) piece (sym from) (sym to))
 
   lawful_by : (most s e : ℕ) → e - s ≤ most → s % 2 ≡ 0 → e % 2 ≡ 0 → s ≤ e → Lawful fit s e (taking next most s e)
   lawful_by zero s e h i j k = omega arith

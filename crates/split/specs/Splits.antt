@@ -1,7 +1,9 @@
 -- How a range is split into pieces, one for each frame. Assumes nothing.
-use Rattle.std.specs.Prelude.{◌≡◌, ℕ, zero, suc, ◌+◌, ◌-◌, ◌%◌, ◌^◌, ◌<◌, ◌≤◌, min, Bool, true, cond, ◌&&◌, List, [], ◌∷◌, length, Some, None, Option, nat_le, nat_lt}
+use Rattle.std.specs.Prelude.{◌≡◌, ℕ, zero, suc, ◌+◌, ◌-◌, ◌%◌, ◌^◌, ◌<◌, ◌≤◌, min, Bool, true, cond, if◌then◌else◌, ◌&&◌, List, [], ◌∷◌, length, Some, None, Option, nat_le, nat_lt}
+use Rattle.std.proofs.Common.{arith}
 use Rattle.clock.specs.declared.range.Latency.{Latency}
 use Rattle.frame.specs.Low.{low_clocks}
+use Rattle.frame.specs.Spans.{span_of}
 use Rattle.frame.specs.declared.span.Span.{Span}
 use Rattle.frame.specs.declared.low.Transfer.{Transfer}
 use Rattle.split.specs.Directions.{limit}
@@ -23,8 +25,15 @@ rounded_from s = s - s % 2
 abbrev pub rounded_to : ℕ → ℕ → ℕ
 rounded_to s n = s + n + (s + n) % 2
 
+-- a rounded range begins at or before its start, and so before its end
+pub rounded_ordered : (s n : ℕ) → rounded_from s ≤ rounded_to s n
+rounded_ordered s n = omega arith
+
 abbrev pub rounded : ℕ → ℕ → Option Span
-rounded s n = cond (nat_lt (rounded_to s n) (2 ^ 32)) (Some (record { from = rounded_from s; to = rounded_to s n })) None
+rounded s n =
+    if nat_lt (rounded_to s n) (2 ^ 32)
+    then Some (record { from = rounded_from s; to = rounded_to s n; ordered = rounded_ordered s n })
+    else None
 
 -- lengths of consecutive pieces from s to e that all fit, each even: from an even s all ends are even
 abbrev pub Lawful : (ℕ → ℕ → Bool) → ℕ → ℕ → List ℕ → Type 0
@@ -47,7 +56,7 @@ longest_first p limit s e = taking (next_piece p limit) (e - s) s e
 -- pieces of these lengths, one after the other from s
 abbrev pub placed : ℕ → List ℕ → List Span
 placed s [] = []
-placed s (n ∷ ns) = record { from = s; to = s + n } ∷ placed (s + n) ns
+placed s (n ∷ ns) = span_of s n ∷ placed (s + n) ns
 
 -- the pieces of that split
 abbrev pub pieces : ℕ → ℕ → ℕ → ℕ → List Span

@@ -57,8 +57,8 @@ impl Splitter {
         ensures value { result ≡ next_piece (page self.now.make) self.now.limit span.from span.to }
         ensures longest { TakesLongest (fits (page self.now.make) self.now.limit) (next_piece (page self.now.make) self.now.limit) }
     {
-        let page = self.make.page();
-        span.bytes().min(self.limit).min(page - span.from % page)
+        let (_, column) = self.make.row_and_column(span.from);
+        span.bytes().min(self.limit).min(self.make.page() - column)
     }
 
     // The pieces of a range.
