@@ -1,5 +1,5 @@
 -- Names: of layers, and of what else has a letter or a code. Assumes nothing.
-use Rattle.std.specs.Prelude.{◌≡◌, ◌≢◌, ℕ, List, codes, Result, MatchResult}
+use Rattle.std.specs.Prelude.{◌≡◌, ◌≢◌, ℕ, List, codes, Option, Result, MatchResult, ◌==◌, find}
 use Rattle.fault.specs.declared.Layer.{Layer}
 use Rattle.fault.specs.declared.Layer.TheVariants.{Script, Port, Chip}
 use Rattle.fault.specs.declared.Unknown.{Unknown}
@@ -8,6 +8,10 @@ abbrev pub layer_name : Layer → List ℕ
 layer_name Script = codes "script"
 layer_name Port = codes "port"
 layer_name Chip = codes "chip"
+
+-- the first of these that has this letter or code
+abbrev pub named : {A : Type 0} → (A → ℕ) → List A → ℕ → Option A
+named name all c = find (λ x. name x == c) all
 
 -- what has this name, by what each is named, or a name that nothing has
 abbrev pub Named : {A : Type 0} → (A → ℕ) → ℕ → Result A (Unknown ℕ) → Type 0

@@ -1,10 +1,11 @@
-// The commands, and the five bytes that open a frame.
-ghost use Rattle.std.specs.Prelude.{◌≡◌};
+//! The commands, and the five bytes that open a frame.
+ghost use Rattle.std.specs.Prelude.{◌≡◌, Some, IfSome, IfNone};
 ghost use Rattle.fault.specs.Names.{Named};
-ghost use Rattle.frame.specs.OpeningBytes.{code, last_address, opening_bytes, from_opening_bytes, GivesBack, Opens};
+ghost use Rattle.frame.specs.OpeningBytes.{code, last_address, opening_bytes, from_opening_bytes, GivesBack, OpensNothing};
 
 use fault::Unknown;
 
+/// What a frame asks of the chip, by the first byte of the frame.
 #[derive(Clone, Copy, Debug, PartialEq, Eq)]
 pub enum Command {
     Read = 0x00,
@@ -36,7 +37,7 @@ impl TryFrom<u8> for Command {
 }
 
 impl Command {
-    // The first byte of a frame.
+    /// The first byte of a frame.
     pub fn code(self) -> u8
         ensures { result ≡ code self }
     {
@@ -55,8 +56,8 @@ impl Command {
         }
     }
 
-    // The five bytes that open a frame: the command, a 0, and the address, high byte first.
-    // None where the address does not fit.
+    /// The five bytes that open a frame: the command, a 0, and the address, high byte first.
+    /// `None` where the address is too large for the command.
     #[tactic(auto, using(crate::proofs::Reopens::gives_back))]
     pub fn opening_bytes(self, address: u32) -> Option<[u8; 5]>
         ensures value { result ≡ opening_bytes self address }
@@ -69,11 +70,12 @@ impl Command {
         Some([self.code(), a3, a2, a1, a0])
     }
 
-    // The command and the address that five bytes open a frame of; None where they open none.
+    /// The command and the address of the frame that five bytes open. `None` where they open none.
     #[tactic(auto, using(crate::proofs::Reopens::command_at, crate::proofs::Reopens::no_command))]
     pub fn from_opening_bytes(bytes: [u8; 5]) -> Option<(Command, u32)>
         ensures value { result ≡ from_opening_bytes bytes }
-        ensures opens { Opens bytes result }
+        ensures opens { IfSome result (λ (c, a). opening_bytes c a ≡ Some bytes) }
+        ensures nothing { IfNone result (OpensNothing bytes) }
     {
         let [first, a3, a2, a1, a0] = &bytes;
         let command = Command::try_from(*first).ok()?;
