@@ -1,9 +1,9 @@
 -- The letter of each range. Assumes nothing.
-use Rattle.std.specs.Prelude.{ℕ}
+use Rattle.std.specs.Prelude.{ℕ, codes}
+use Rattle.fault.specs.Names.{initial}
 use Rattle.clock.specs.declared.range.TemperatureRange.{TemperatureRange}
 use Rattle.clock.specs.declared.range.TemperatureRange.TheVariants.{Normal, Extended}
 
--- N or X
 abbrev pub letter : TemperatureRange → ℕ
-letter Normal = 78
-letter Extended = 88
+letter Normal = initial (codes "N")
+letter Extended = initial (codes "X")

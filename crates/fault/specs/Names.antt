@@ -1,5 +1,5 @@
 -- Names: of layers, and of what else has a letter or a code. Assumes nothing.
-use Rattle.std.specs.Prelude.{◌≡◌, ◌≢◌, ℕ, List, codes, Option, Result, MatchResult, ◌==◌, find}
+use Rattle.std.specs.Prelude.{◌≡◌, ◌≢◌, ℕ, List, codes, Option, Result, MatchResult, ◌==◌, find, slice_index}
 use Rattle.fault.specs.declared.Layer.{Layer}
 use Rattle.fault.specs.declared.Layer.TheVariants.{Script, Port, Chip}
 use Rattle.fault.specs.declared.Unknown.{Unknown}
@@ -8,6 +8,10 @@ abbrev pub layer_name : Layer → List ℕ
 layer_name Script = codes "script"
 layer_name Port = codes "port"
 layer_name Chip = codes "chip"
+
+-- the first byte of a text: a letter as a number
+abbrev pub initial : List ℕ → ℕ
+initial text = slice_index text 0
 
 -- the first of these that has this letter or code
 abbrev pub named : {A : Type 0} → (A → ℕ) → List A → ℕ → Option A

@@ -3,7 +3,7 @@ use Rattle.std.proofs.Common.{◌≡◌, ℕ, ◌+◌, ◌-◌, ◌/◌, ◌%◌
 use Rattle.std.proofs.lemmas.Bool.{le-ltb, cond-false}
 use Rattle.std.proofs.lemmas.Bool.Decides.{nat_tests}
 use Rattle.frame.specs.Bursts.{bytes, base, burst_address, wrapped}
-use Rattle.frame.specs.Orders.{Permutes, Ordered}
+use Rattle.frame.specs.Orders.{Permutes, GoesOnBehind, IsBurstOrder}
 use Rattle.frame.specs.Pages.{page}
 use Rattle.frame.specs.declared.burst.Block.{Block}
 use Rattle.frame.specs.declared.burst.Block.TheVariants.{Bytes16, Bytes32, Bytes64, Page}
@@ -49,14 +49,14 @@ once_2048 s = record {
   each = λ a e. ((a % 2048 + 2048 - s % 2048) % 2048, omega arith, omega arith);
 }
 
-permutes : (m : Make) (s : ℕ) (b : Block) → Permutes (bytes m b) s (burst_address m (Wrapped b) s)
+permutes : (m : Make) (s : ℕ) (block : Block) → Permutes (bytes m block) s (burst_address m (Wrapped block) s)
 permutes m s Bytes16 = once_16 s
 permutes m s Bytes32 = once_32 s
 permutes m s Bytes64 = once_64 s
 permutes make.A s Page = once_1024 s
 permutes make.S s Page = once_2048 s
 
-stays : (m : Make) (s : ℕ) (b : Burst) (i : ℕ) → burst_address m b s i / page m ≡ s / page m
+stays : (m : Make) (s : ℕ) (burst : Burst) (i : ℕ) → burst_address m burst s i / page m ≡ s / page m
 stays make.A s Linear i = omega arith
 stays make.S s Linear i = omega arith
 stays make.A s (Wrapped Bytes16) i = omega arith
@@ -76,7 +76,7 @@ stays make.S s (Hybrid Bytes32) i = grind (arith, nat_tests)
 stays make.S s (Hybrid Bytes64) i = grind (arith, nat_tests)
 stays make.S s (Hybrid Page) i = omega arith
 
-goes_on : (m : Make) (s : ℕ) (b : Block) (i : ℕ) → bytes m b ≤ i → base (bytes m b) s + i < base (page m) s + page m → burst_address m (Hybrid b) s i ≡ base (bytes m b) s + i
+goes_on : (m : Make) (s : ℕ) (block : Block) → GoesOnBehind (bytes m block) (page m) s (burst_address m (Hybrid block) s)
 goes_on make.A s Bytes16 i h k = cond-false _ _ _ (le-ltb i 16 h) ∙ omega arith
 goes_on make.A s Bytes32 i h k = cond-false _ _ _ (le-ltb i 32 h) ∙ omega arith
 goes_on make.A s Bytes64 i h k = cond-false _ _ _ (le-ltb i 64 h) ∙ omega arith
@@ -86,5 +86,13 @@ goes_on make.S s Bytes32 i h k = cond-false _ _ _ (le-ltb i 32 h) ∙ omega arit
 goes_on make.S s Bytes64 i h k = cond-false _ _ _ (le-ltb i 64 h) ∙ omega arith
 goes_on make.S s Page i h k = absurd (omega arith)
 
-pub ordered : (m : Make) (s : ℕ) → Ordered m s
-ordered m s = record { stays = stays m s; permutes = permutes m s; goes_on = goes_on m s }
+pub burst_order : (m : Make) (s : ℕ) → IsBurstOrder m s
+burst_order m s = record { stays = stays m s; permutes = permutes m s; goes_on = goes_on m s }
+
+-- 2 ^ 32 bytes are whole blocks
+pub whole_turns : (m : Make) (block : Block) (i : ℕ) → i % 4294967296 % bytes m block ≡ i % bytes m block
+whole_turns m Bytes16 i = omega arith
+whole_turns m Bytes32 i = omega arith
+whole_turns m Bytes64 i = omega arith
+whole_turns make.A Page i = omega arith
+whole_turns make.S Page i = omega arith

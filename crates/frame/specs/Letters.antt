@@ -1,9 +1,9 @@
 -- The letter of each make. Assumes nothing.
-use Rattle.std.specs.Prelude.{ℕ}
+use Rattle.std.specs.Prelude.{ℕ, codes}
+use Rattle.fault.specs.Names.{initial}
 use Rattle.frame.specs.declared.make.Make.{Make}
 use Rattle.frame.specs.declared.make.Make.TheVariants as make
 
--- A or S
 abbrev pub letter : Make → ℕ
-letter make.A = 65
-letter make.S = 83
+letter make.A = initial (codes "A")
+letter make.S = initial (codes "S")

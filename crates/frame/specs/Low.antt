@@ -5,14 +5,14 @@ use Rattle.frame.specs.declared.low.Transfer.{Transfer}
 use Rattle.frame.specs.declared.low.Transfer.TheVariants.{Read, Write, RegisterRead, RegisterWrite, GlobalReset}
 
 -- two bytes a clock
-abbrev pub half_up : ℕ → ℕ
-half_up n = (n + 1) / 2
+abbrev pub data_clocks : ℕ → ℕ
+data_clocks n = (n + 1) / 2
 
 -- three clocks for the opening bytes, the latency, the data; a register takes one clock, a register write a latency of 1
 abbrev pub low_clocks : Transfer → ℕ
-low_clocks (Read l n) = 3 + l + half_up n
-low_clocks (Write l n) = 3 + clocks l + half_up n
-low_clocks (RegisterRead l) = 3 + clocks l + 1
+low_clocks (Read latency n) = 3 + latency + data_clocks n
+low_clocks (Write latency n) = 3 + clocks latency + data_clocks n
+low_clocks (RegisterRead latency) = 3 + clocks latency + 1
 low_clocks RegisterWrite = 3 + 1 + 1
 low_clocks GlobalReset = 4
 

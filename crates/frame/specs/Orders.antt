@@ -13,10 +13,14 @@ pub record Permutes (b s : ℕ) (address : ℕ → ℕ) : Type 0 where
   pub apart : (i j : ℕ) → i < b → j < b → address i ≡ address j → i ≡ j
   pub each : (a : ℕ) → a / b ≡ s / b → (i : ℕ) × (i < b) × (address i ≡ a)
 
-pub record Ordered (m : Make) (s : ℕ) : Type 0 where
+-- behind the block of b bytes the addresses go on at base + b, up to the end of the page of p bytes
+abbrev pub GoesOnBehind : ℕ → ℕ → ℕ → (ℕ → ℕ) → Type 0
+GoesOnBehind b p s address = (i : ℕ) → b ≤ i → base b s + i < base p s + p → address i ≡ base b s + i
+
+pub record IsBurstOrder (make : Make) (s : ℕ) : Type 0 where
   -- no burst leaves the page of its start
-  pub stays : (b : Burst) (i : ℕ) → burst_address m b s i / page m ≡ s / page m
+  pub stays : (burst : Burst) (i : ℕ) → burst_address make burst s i / page make ≡ s / page make
   -- a wrapped burst goes once through its block in the first turn
-  pub permutes : (b : Block) → Permutes (bytes m b) s (burst_address m (Wrapped b) s)
-  -- behind its block a hybrid burst goes on at base + block length, up to the end of the page
-  pub goes_on : (b : Block) (i : ℕ) → bytes m b ≤ i → base (bytes m b) s + i < base (page m) s + page m → burst_address m (Hybrid b) s i ≡ base (bytes m b) s + i
+  pub permutes : (block : Block) → Permutes (bytes make block) s (burst_address make (Wrapped block) s)
+  -- a hybrid burst goes on behind its block
+  pub goes_on : (block : Block) → GoesOnBehind (bytes make block) (page make) s (burst_address make (Hybrid block) s)

@@ -1,4 +1,4 @@
-// Frames on the octal bus: their opening bytes, where their bytes lie, and how long CE# is low.
+//! Frames on the octal bus: their opening bytes, where their bytes lie, and how long CE# is low.
 #![tactic(auto)]
 
 mod burst;

@@ -1,25 +1,25 @@
-// How many clocks CE# is low.
+//! How many clocks CE# is low.
 ghost use Rattle.std.specs.Prelude.{◌≡◌};
 ghost use Rattle.frame.specs.Low.{low_clocks, low_clocks_of, saturated};
 
 use clock::Latency;
 
-// What one frame carries, with its latency.
+/// What one frame carries, with its latency.
 #[derive(Clone, Copy, Debug, PartialEq, Eq)]
 pub enum Transfer {
-    // this many bytes, after a latency of LC to 2 LC clocks
+    /// This many bytes, after a latency of LC to 2 LC clocks.
     Read { latency: u32, bytes: usize },
-    // this many bytes, after the write latency
+    /// This many bytes, after WL.
     Write { latency: Latency, bytes: usize },
-    // one register, after the read latency
+    /// One register, after LC.
     RegisterRead { latency: Latency },
     RegisterWrite,
     GlobalReset,
 }
 
 impl Transfer {
-    // The clocks that CE# is low: three for the opening bytes, the latency, and one for each two
-    // bytes. A register write has a latency of 1; a global reset takes four in all.
+    /// The clocks that CE# is low: three for the opening bytes, the latency, and one for each two
+    /// bytes. A register write has a latency of 1; a global reset takes four in all.
     pub fn low_clocks(self) -> u64
         ensures { result ≡ low_clocks self }
     {
@@ -37,7 +37,7 @@ impl Transfer {
     }
 }
 
-// The sum of the low clocks of these frames, held at 2^64 - 1.
+/// The sum of the low clocks of these frames. It stays at 2^64 - 1.
 pub fn low_clocks_of(frames: &[Transfer]) -> u64
     ensures { result ≡ saturated (low_clocks_of frames.now) }
 {

@@ -1,4 +1,4 @@
-// The two makes of chip.
+//! The two makes of chip.
 ghost use Rattle.std.specs.Prelude.{◌≡◌, Some, [], ◌∷◌};
 ghost use Rattle.fault.specs.Names.{Named};
 ghost use Rattle.frame.specs.Letters.{letter};
@@ -7,15 +7,17 @@ ghost use Rattle.frame.specs.Pages.{page, row_and_column};
 use fault::Unknown;
 use std::fmt;
 
-// A is the APS12808L-3OBM, S the SCB18X128800AF in its 8-bit mode.
+/// The make of a chip.
 #[derive(Clone, Copy, Debug, PartialEq, Eq)]
 pub enum Make {
+    /// The APS12808L-3OBM.
     A,
+    /// The SCB18X128800AF, in its 8-bit mode.
     S,
 }
 
 impl Make {
-    // The page length: 1,024 bytes for A, 2,048 for S.
+    /// The page length in bytes.
     pub fn page(self) -> u32
         ensures { result ≡ page self }
     {
@@ -25,7 +27,7 @@ impl Make {
         }
     }
 
-    // The row and the column of an address.
+    /// The row and the column of an address.
     pub fn row_and_column(self, address: u32) -> (u32, u32)
         ensures { result ≡ row_and_column self address }
     {
