@@ -1,7 +1,6 @@
-// Clock numbers: how many clocks the times of the data sheet are.
+//! Clock numbers: how many clocks the times of the data sheets are.
 #![tactic(auto)]
 
-mod make;
 mod numbers;
 mod range;
 
