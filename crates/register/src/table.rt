@@ -1,13 +1,13 @@
-// Which registers there are, and what they hold after wake or reset. A register goes by its number
-// on the wire and is no enum: any byte may be sent as one, and is refused only as a frame's last fault.
+//! Which registers there are, what they hold after wake or reset, and which values they take.
 ghost use Rattle.std.specs.Prelude.{◌≡◌};
 ghost use Rattle.register.specs.Registers.{readable, writable, accepts};
 ghost use Rattle.register.specs.Table.{after_reset};
 
+use crate::fields::bits;
 use frame::Make;
 
-// What a register holds after wake or reset; MR1 to MR3 can only be read, and hold this always.
-// None for a register that is none of 0 to 4 and 8.
+/// What a register, by its number, holds after wake or reset. MR1 to MR3 can only be read, and hold
+/// this always. `None` for a register that is none of 0 to 4 and 8.
 pub fn after_reset(make: Make, number: u8) -> Option<u8>
     ensures { result ≡ after_reset make number }
 {
@@ -26,30 +26,29 @@ pub fn after_reset(make: Make, number: u8) -> Option<u8>
     }
 }
 
-// Whether a register can be read: 0 to 4 and 8.
+/// Whether a register can be read: 0 to 4 and 8.
 pub fn readable(number: u8) -> bool
     ensures { result ≡ readable number }
 {
     number < 5 || number == 8
 }
 
-// Whether a register can be written: 0, 4 and 8.
+/// Whether a register can be written: 0, 4 and 8.
 pub fn writable(number: u8) -> bool
     ensures { result ≡ writable number }
 {
     number == 0 || number == 4 || number == 8
 }
 
-// Whether a register can be written with this value: bits without a name are 0, and no code is
-// reserved.
+/// Whether a register can be written with this value: bits without a name are 0, and no code is
+/// reserved.
 pub fn accepts(number: u8, value: u8) -> bool
     ensures { result ≡ accepts number value }
 {
     match number {
-        0 => value / 64 == 0 && value / 4 % 8 <= 0b010,
-        4 => value / 8 % 4 == 0
-            && (value / 32 == 0b000 || value / 32 == 0b100 || value / 32 == 0b010),
-        8 => value / 8 == 0,
+        0 => bits(value, 7, 6) == 0 && bits(value, 4, 2) <= 0b010,
+        4 => bits(value, 4, 3) == 0 && matches!(bits(value, 7, 5), 0b000 | 0b100 | 0b010),
+        8 => bits(value, 7, 3) == 0,
         _ => false,
     }
 }
