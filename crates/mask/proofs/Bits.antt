@@ -1,18 +1,18 @@
 -- The bits of a mask: their number, and whether one is set past a length. Assumes nothing.
-use Rattle.std.proofs.Common.{◌≡◌, ℕ, zero, suc, ◌+◌, ◌-◌, ◌*◌, ◌/◌, ◌%◌, ◌^◌, ◌<◌, ◌≤◌, min, Bool, true, false, cond, eqb, List, length, get_or, sym, refl, ap, ◌∙◌, inl, inr, ⊎_elim, add-zero, add-suc, pos_of_ne-zero, one-add, arith, pow_mono, pow-add}
+use Rattle.std.proofs.Common.{◌≡◌, ℕ, zero, suc, ◌+◌, ◌-◌, ◌*◌, ◌/◌, ◌%◌, ◌^◌, ◌<◌, ◌≤◌, ◌↔◌, min, Bool, true, false, not, IsTrue, cond, eqb, List, length, get_or, sym, refl, ap, ◌∙◌, inl, inr, ⊎_elim, add-zero, add-suc, pos_of_ne-zero, one-add, arith, pow_mono, pow-add}
 use native.Mathlib.Nat.{zero-div, div-eq_of_lt}
 use lib.Arith.{bin_ind}
 use lib.Count.{ones, ones_step, ones-le}
 use Rattle.std.proofs.lemmas.Nat.{shr-shr}
 use Rattle.std.proofs.lemmas.List.{get_or_past}
-use Rattle.std.proofs.lemmas.Bool.{true≢false, cases_lt, cases_eq, cases_order, cond-true, cond-false, eq-eqb, ne_eqb, eqb-true, lt-ltb, le-ltb}
+use Rattle.std.proofs.lemmas.Bool.{true≢false, cases_lt, cases_eq, cond-false, eq-eqb, ne_eqb, eqb-true}
 use Rattle.std.proofs.lemmas.Bool.Decides.{nat_tests}
 use Rattle.frame.specs.Low.{saturated}
-use Rattle.mask.specs.Masks.{masked, masked_among, left_over, Past}
+use Rattle.mask.specs.Masks.{masked, masked_among, MasksPast, HasBitPast}
 
 -- past the mask's end nothing is masked
-none_past : (mask : List ℕ) (i : ℕ) → length mask ≤ i / 8 → masked mask i ≡ false
-none_past mask i h = ap (λ b. eqb (b / 2 ^ (i % 8) % 2) 1) (get_or_past mask (i / 8) 0 h) ∙ ap (λ x. eqb (x % 2) 1) (zero-div (2 ^ (i % 8)))
+unmasked_past_end : (mask : List ℕ) (i : ℕ) → length mask ≤ i / 8 → masked mask i ≡ false
+unmasked_past_end mask i h = ap (λ b. eqb (b / 2 ^ (i % 8) % 2) 1) (get_or_past mask (i / 8) 0 h) ∙ ap (λ x. eqb (x % 2) 1) (zero-div (2 ^ (i % 8)))
 
 -- how many of the low k bits of b are set
 bits : ℕ → ℕ → ℕ
@@ -52,7 +52,7 @@ among_bits mask i zero h = ap (masked_among mask) (add-zero (8 * i)) ∙ sym (ad
 among_bits mask i (suc j) h =
     ap (masked_among mask) (add-suc (8 * i) j) ∙ omega (arith, bit_more mask i j (omega arith), among_bits mask i j (omega arith))
 
--- one byte further on, where the count is held
+-- one byte further on, where the count stays at 2 ^ 64 - 1
 pub count_more : (mask : List ℕ) (i count ones' next : ℕ) → get_or mask i 0 < 256 → count ≡ saturated (masked_among mask (8 * i)) → ones' ≡ ones (get_or mask i 0) → next ≡ min (count + ones') (2 ^ 64 - 1) → next ≡ saturated (masked_among mask (8 * (i + 1)))
 count_more mask i count ones' next small was is then =
     let whole : masked_among mask (8 * (i + 1)) ≡ masked_among mask (8 * i + 8) = ap (masked_among mask) (omega arith) in
@@ -80,53 +80,69 @@ set_at mask k j h one =
     let same : get_or mask ((8 * k + j) / 8) 0 / 2 ^ ((8 * k + j) % 8) % 2 ≡ 1 = rw (at, bit) one in
     eq-eqb _ 1 same
 
-left_below : (byte k n : ℕ) → k < n / 8 → left_over byte k n ≡ 0
-left_below byte k n h = cond-true _ _ _ (lt-ltb k (n / 8) h)
-
-left_here : (byte k n : ℕ) → k ≡ n / 8 → left_over byte k n ≡ byte / 2 ^ (n % 8)
-left_here byte k n e = cond-false _ _ _ (le-ltb k (n / 8) (omega arith)) ∙ cond-true _ _ _ (eq-eqb k (n / 8) e)
-
-left_above : (byte k n : ℕ) → n / 8 < k → left_over byte k n ≡ byte
-left_above byte k n h = cond-false _ _ _ (le-ltb k (n / 8) (omega arith)) ∙ cond-false _ _ _ (ne_eqb k (n / 8) (λ e. omega arith))
-
--- a bit of a byte of the mask, at or past bit n
-past_by : (mask : List ℕ) (k j n : ℕ) → get_or mask k 0 < 256 → get_or mask k 0 / 2 ^ j % 2 ≡ 1 → n ≤ 8 * k + j → Past mask n
-past_by mask k j n small one h =
+-- a set bit is among the eight of its byte
+low_bit : (byte j : ℕ) → byte < 256 → byte / 2 ^ j % 2 ≡ 1 → j < 8
+low_bit byte j small one =
     ⊎_elim
-    (λ low. (8 * k + j, h, set_at mask k j low one))
-    (λ high. absurd (omega (arith, ap (λ x. x % 2) (high_bits 8 (get_or mask k 0) j small high))))
+    (λ low. low)
+    (λ high. absurd (omega (arith, ap (λ x. x % 2) (high_bits 8 byte j small high))))
     (cases_lt j 8)
 
--- where byte k has a bit left over, a byte at or past n is masked
-pub some_past : (mask : List ℕ) (k n : ℕ) → get_or mask k 0 < 256 → (left_over (get_or mask k 0) k n ≡ 0 → ⊥) → Past mask n
-some_past mask k n small some = elim (cases_order k (n / 8)) [
-  | inl here ↦
-      let kept = left_here (get_or mask k 0) k n here in
-      let bit = some_bit (get_or mask k 0 / 2 ^ (n % 8)) (pos_of_ne-zero (λ none. some (kept ∙ none))) in
-      past_by mask k (n % 8 + bit.0) n small (ap (λ x. x % 2) (sym (shr-shr (get_or mask k 0) (n % 8) bit.0)) ∙ bit.1) (omega arith)
-  | inr (inl below) ↦ absurd (some (left_below (get_or mask k 0) k n below))
-  | inr (inr above) ↦
-      let bit = some_bit (get_or mask k 0) (pos_of_ne-zero (λ none. some (left_above (get_or mask k 0) k n above ∙ none))) in
-      past_by mask k bit.0 n small bit.1 (omega arith)
+-- a byte that ends at or before bit n has no bit past it
+none_below : (byte k n : ℕ) → byte < 256 → k < n / 8 → HasBitPast byte k n → ⊥
+none_below byte k n small h (j, past, one) = omega (arith, low_bit byte j small one)
+
+-- the byte that bit n is in has a bit past it where something is left of it
+some_here : (byte k n : ℕ) → k ≡ n / 8 → 0 < byte / 2 ^ (n % 8) → HasBitPast byte k n
+some_here byte k n here h =
+    let bit = some_bit (byte / 2 ^ (n % 8)) h in
+    (n % 8 + bit.0, omega arith, ap (λ x. x % 2) (sym (shr-shr byte (n % 8) bit.0)) ∙ bit.1)
+
+none_here : (byte k n : ℕ) → byte < 256 → k ≡ n / 8 → byte / 2 ^ (n % 8) ≡ 0 → HasBitPast byte k n → ⊥
+none_here byte k n small here none (j, past, one) =
+    let low = low_bit byte j small one in
+    let parts : n % 8 + (j - n % 8) ≡ j = omega arith in
+    let clear : byte / 2 ^ j ≡ 0 =
+    ap (λ x. byte / 2 ^ x) (sym parts) ∙ sym (shr-shr byte (n % 8) (j - n % 8)) ∙ ap (λ x. x / 2 ^ (j - n % 8)) none
+    ∙ zero-div (2 ^ (j - n % 8))
+    in
+    omega (arith, ap (λ x. x % 2) clear)
+
+-- of a byte behind it, every bit is past bit n
+some_above : (byte k n : ℕ) → n / 8 < k → 0 < byte → HasBitPast byte k n
+some_above byte k n above h = let bit = some_bit byte h in (bit.0, omega arith, bit.1)
+
+none_of_zero : (byte k n : ℕ) → byte ≡ 0 → HasBitPast byte k n → ⊥
+none_of_zero byte k n zero_is (j, past, one) =
+    omega (arith, ap (λ x. x % 2) (ap (λ x. x / 2 ^ j) zero_is ∙ zero-div (2 ^ j)))
+
+-- a test for 0 says that there is a bit, where a number that is not 0 has one and 0 has none
+nonzero_is : {P : Type 0} (x : ℕ) → (0 < x → P) → (x ≡ 0 → P → ⊥) → IsTrue (not (eqb x 0)) ↔ P
+nonzero_is x some none = elim (cases_eq x 0) [
+  | inl is ↦
+      let clear : not (eqb x 0) ≡ false = ap not (eq-eqb x 0 is) in
+      (λ set. absurd (true≢false (sym set ∙ clear)), λ p. absurd (none is p))
+  | inr is_not ↦ (λ set. some (pos_of_ne-zero is_not), λ p. ap not (ne_eqb x 0 is_not))
 ]
 
--- a byte with nothing left over from bit n on has no bit set at or past n
-none_set : (byte i n : ℕ) → n ≤ i → left_over byte (i / 8) n ≡ 0 → byte / 2 ^ (i % 8) ≡ 0
-none_set byte i n h none = elim (cases_order (i / 8) (n / 8)) [
-  | inl here ↦
-      let low : n % 8 ≤ i % 8 = omega arith in
-      let parts : n % 8 + (i % 8 - n % 8) ≡ i % 8 = omega arith in
-      ap (λ j. byte / 2 ^ j) (sym parts) ∙ sym (shr-shr byte (n % 8) (i % 8 - n % 8))
-      ∙ ap (λ x. x / 2 ^ (i % 8 - n % 8)) (sym (left_here byte (i / 8) n here) ∙ none) ∙ zero-div _
-  | inr (inl below) ↦ absurd (omega arith)
-  | inr (inr above) ↦ ap (λ x. x / 2 ^ (i % 8)) (sym (left_above byte (i / 8) n above) ∙ none) ∙ zero-div _
-]
+pub bit_past_below : (byte k n : ℕ) → byte < 256 → k < n / 8 → IsTrue false ↔ HasBitPast byte k n
+bit_past_below byte k n small h = (λ set. absurd (true≢false (sym set)), λ bit. absurd (none_below byte k n small h bit))
 
--- where no byte has a bit left over, no byte at or past n is masked
-pub none_left : (mask : List ℕ) (n : ℕ) → ((k : ℕ) → k < length mask → left_over (get_or mask k 0) k n ≡ 0) → Past mask n → ⊥
-none_left mask n none (i, h, set) = elim (cases_lt (i / 8) (length mask)) [
-  | inl within ↦ omega (arith, eqb-true _ 1 set, ap (λ x. x % 2) (none_set (get_or mask (i / 8) 0) i n h (none (i / 8) within)))
-  | inr past ↦ true≢false (sym set ∙ none_past mask i past)
+pub bit_past_here : (byte k n : ℕ) → byte < 256 → k ≡ n / 8 → IsTrue (not (eqb (byte / 2 ^ (n % 8)) 0)) ↔ HasBitPast byte k n
+bit_past_here byte k n small here = nonzero_is (byte / 2 ^ (n % 8)) (some_here byte k n here) (none_here byte k n small here)
+
+pub bit_past_above : (byte k n : ℕ) → n / 8 < k → IsTrue (not (eqb byte 0)) ↔ HasBitPast byte k n
+bit_past_above byte k n above = nonzero_is byte (some_above byte k n above) (none_of_zero byte k n)
+
+-- where byte k has a bit past n, a byte at or past n is masked
+pub some_past : (mask : List ℕ) (k n : ℕ) → get_or mask k 0 < 256 → HasBitPast (get_or mask k 0) k n → MasksPast mask n
+some_past mask k n small (j, past, one) = (8 * k + j, past, set_at mask k j (low_bit _ j small one) one)
+
+-- where no byte has a bit past n, no byte at or past n is masked
+pub none_masked_past : (mask : List ℕ) (n : ℕ) → ((k : ℕ) → k < length mask → HasBitPast (get_or mask k 0) k n → ⊥) → MasksPast mask n → ⊥
+none_masked_past mask n none (i, h, set) = elim (cases_lt (i / 8) (length mask)) [
+  | inl within ↦ none (i / 8) within (i % 8, omega arith, eqb-true _ 1 set)
+  | inr past ↦ true≢false (sym set ∙ unmasked_past_end mask i past)
 ]
 
 unset : (b : Bool) → (b ≡ true → ⊥) → b ≡ false
@@ -134,16 +150,16 @@ unset true h = absurd (h refl)
 unset false h = refl
 
 -- where no byte at or past n is masked, counting further on finds none
-no_more : (mask : List ℕ) (n d : ℕ) → (Past mask n → ⊥) → masked_among mask (n + d) ≡ masked_among mask n
+no_more : (mask : List ℕ) (n d : ℕ) → ¬ MasksPast mask n → masked_among mask (n + d) ≡ masked_among mask n
 no_more mask n zero none = ap (masked_among mask) (add-zero n)
 no_more mask n (suc d) none =
     let clear : masked mask (n + d) ≡ false = unset _ (λ set. none (n + d, omega arith, set)) in
     ap (masked_among mask) (add-suc n d) ∙ omega (arith, cond-false {A = ℕ} (masked mask (n + d)) 1 0 clear, no_more mask n d none)
 
 -- the masked bytes of a write are those of its mask, unless a bit is set past the write
-pub all_among : (mask : List ℕ) (n : ℕ) → (Past mask n → ⊥) → masked_among mask (8 * length mask) ≡ masked_among mask n
+pub all_among : (mask : List ℕ) (n : ℕ) → ¬ MasksPast mask n → masked_among mask (8 * length mask) ≡ masked_among mask n
 all_among mask n none =
     ⊎_elim
     (λ h. ap (masked_among mask) (omega arith) ∙ no_more mask n (8 * length mask - n) none)
-    (λ h. sym (ap (masked_among mask) (omega arith) ∙ no_more mask (8 * length mask) (n - 8 * length mask) (λ past. true≢false (sym past.2 ∙ none_past mask past.0 (omega (arith, past.1))))))
+    (λ h. sym (ap (masked_among mask) (omega arith) ∙ no_more mask (8 * length mask) (n - 8 * length mask) (λ past. true≢false (sym past.2 ∙ unmasked_past_end mask past.0 (omega (arith, past.1))))))
     (cases_lt n (8 * length mask))

@@ -1,5 +1,5 @@
 -- Masks: one bit for each byte of a write, lowest bit first; a set bit means that it is not written. Assumes nothing.
-use Rattle.std.specs.Prelude.{◌≡◌, ℕ, zero, suc, ◌+◌, ◌/◌, ◌%◌, ◌^◌, ◌≤◌, Bool, true, cond, List, ◌==◌, nat_lt, slice_index}
+use Rattle.std.specs.Prelude.{◌≡◌, ℕ, zero, suc, ◌+◌, ◌*◌, ◌/◌, ◌%◌, ◌^◌, ◌≤◌, Bool, IsTrue, if◌then◌else◌, List, ◌==◌, slice_index}
 
 -- the bytes of a mask for n bytes
 abbrev pub size : ℕ → ℕ
@@ -12,12 +12,12 @@ masked mask i = slice_index mask (i / 8) / 2 ^ (i % 8) % 2 == 1
 -- how many of the first n bytes are masked
 abbrev pub masked_among : List ℕ → ℕ → ℕ
 masked_among mask zero = 0
-masked_among mask (suc n) = masked_among mask n + cond (masked mask n) 1 0
+masked_among mask (suc n) = masked_among mask n + (if masked mask n then 1 else 0)
 
 -- a byte at or past n is masked
-abbrev pub Past : List ℕ → ℕ → Type 0
-Past mask n = (i : ℕ) × (n ≤ i) × (masked mask i ≡ true)
+abbrev pub MasksPast : List ℕ → ℕ → Type 0
+MasksPast mask n = (i : ℕ) × (n ≤ i) × IsTrue (masked mask i)
 
--- the bits of byte k of a mask from bit n on, moved down
-abbrev pub left_over : ℕ → ℕ → ℕ → ℕ
-left_over byte k n = cond (nat_lt k (n / 8)) 0 (cond (k == n / 8) (byte / 2 ^ (n % 8)) byte)
+-- a bit of byte k of a mask is set that is at or past bit n of the mask
+abbrev pub HasBitPast : ℕ → ℕ → ℕ → Type 0
+HasBitPast byte k n = (j : ℕ) × (n ≤ 8 * k + j) × (byte / 2 ^ j % 2 ≡ 1)

@@ -1,55 +1,55 @@
-// Masks: one bit for each byte of a write, lowest bit first; a set bit means that it is not written.
+//! Masks: one bit for each byte of a write, lowest bit first; a set bit means that it is not written.
 #![tactic(auto)]
 
-ghost use Rattle.std.specs.Prelude.{◌≡◌, ℕ, ◌*◌, ◌≤◌, true, length, Decides};
+ghost use Rattle.std.specs.Prelude.{◌≡◌, ℕ, ◌*◌, ◌↔◌, length, IsTrue};
 ghost use Rattle.frame.specs.Low.{saturated};
-ghost use Rattle.mask.specs.Masks.{size, masked, masked_among, left_over, Past};
+ghost use Rattle.mask.specs.Masks.{size, masked, masked_among, MasksPast, HasBitPast};
 
-// The bytes of a mask for this many bytes: one eighth, rounded up.
-pub fn size(length: usize) -> usize
-    ensures { result ≡ size «length» }
+/// The bytes of a mask for this many bytes.
+pub fn size(count: usize) -> usize
+    ensures { result ≡ size count }
 {
-    length.div_ceil(8)
+    count.div_ceil(8)
 }
 
-// Whether byte `i` of a write is masked. Past the end of the mask nothing is.
+/// Whether byte `i` of a write is masked. Past the end of the mask nothing is.
 pub fn masked(mask: &[u8], i: usize) -> bool
     ensures { result ≡ masked mask.now i }
 {
     mask.get(i / 8)
-        .is_some_and(|byte| (byte >> (i % 8)) % 2 == 1)
+        .is_some_and(|byte| (byte >> (i % 8)) & 1 == 1)
 }
 
-// The bits of byte `k` of a mask that are at or past bit `from`.
-fn left_over(byte: u8, k: usize, from: usize) -> u8
-    ensures { result ≡ left_over byte k from }
+// Whether byte `k` of a mask has a bit set for a byte at or past `count`.
+fn has_bit_past(byte: u8, k: usize, count: usize) -> bool
+    ensures { IsTrue result ↔ HasBitPast byte k count }
 {
-    if k < from / 8 {
-        0
-    } else if k == from / 8 {
-        byte >> (from % 8)
+    if k < count / 8 {
+        false
+    } else if k == count / 8 {
+        byte >> (count % 8) != 0
     } else {
-        byte
+        byte != 0
     }
 }
 
-// Whether a bit is set for a byte at or past `length`.
-pub fn set_past(mask: &[u8], length: usize) -> bool
-    ensures { Decides result (Past mask.now «length») }
+/// Whether a byte at or past `count` is masked.
+pub fn masks_past(mask: &[u8], count: usize) -> bool
+    ensures { IsTrue result ↔ MasksPast mask.now count }
 {
     for (k, byte) in mask.iter().enumerate() {
-        if left_over(*byte, k, length) != 0 {
+        if has_bit_past(*byte, k, count) {
             return true;
         }
     }
     false
 }
 
-// How many bytes the mask keeps from being written, held at 2^64 - 1. For a write that no bit is
-// set past, these are its masked bytes.
+/// How many bytes the mask keeps from being written; this stays at 2^64 - 1. For a write that no
+/// bit is set past, these are its masked bytes.
 pub fn masked_bytes(mask: &[u8]) -> u64
     ensures value { result ≡ saturated (masked_among mask.now (8 * length mask.now)) }
-    ensures among { (n : ℕ) → (Past mask.now n → ⊥) → result ≡ saturated (masked_among mask.now n) }
+    ensures among { (n : ℕ) → ¬ MasksPast mask.now n → result ≡ saturated (masked_among mask.now n) }
 {
     let mut count = 0u64;
     for byte in mask {

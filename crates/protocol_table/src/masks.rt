@@ -12,7 +12,7 @@ pub fn mask(heap: Global, mask: &[u8], length: Word, byte: Word) -> Option<Strin
         heap,
         &[
             Item::Long(mask::size(length) as u64),
-            Item::Flag(mask::set_past(mask, length)),
+            Item::Flag(mask::masks_past(mask, length)),
             Item::Long(mask::masked_bytes(mask)),
             Item::Flag(mask::masked(mask, byte)),
         ],
