@@ -1,10 +1,10 @@
-// The bench sheet of one record: for each make, temperature range and clock, the clock numbers, the
-// record's place, and the frames that read and write it.
+//! The bench sheet of one record: for each make, temperature range and clock, the clock numbers, the
+//! record's place, and the frames that read and write it.
 #![tactic(auto)]
 
 use clock::{Clock, TemperatureRange};
 use frame::{Command, Make, Span, Transfer};
-use split::{Direction, Splitter, frames_of, rounded};
+use split::{Direction, Splitter, frames_of, rounded_span};
 use std::{fmt, io};
 
 // Where the record lies: from an odd address, over the end of a page of A, within one page of S.
@@ -20,18 +20,25 @@ struct Numbers(Clock);
 
 impl fmt::Display for Numbers {
     fn fmt<W: fmt::Write>(&self, f: &mut fmt::Formatter<W>) -> fmt::Result {
-        let k = self.0;
-        let period = k.period();
-        let lc = k.lc.clocks();
-        let wl = k.wl.clocks();
+        let clock = self.0;
+        let period = clock.period();
+        let lc = clock.lc.clocks();
+        let wl = clock.wl.clocks();
         write!(f, "period {period} ps, LC {lc}, WL {wl}, ")?;
-        write!(f, "tCEM {}, tCPH {}, tRC {}, ", k.tcem, k.tcph, k.trc)?;
-        write!(f, "tRST {}, tPU {}, tRP {}", k.trst, k.tpu, k.trp)
+        write!(
+            f,
+            "tCEM {}, tCPH {}, tRC {}, ",
+            clock.tcem, clock.tcph, clock.trc
+        )?;
+        write!(
+            f,
+            "tRST {}, tPU {}, tRP {}",
+            clock.trst, clock.tpu, clock.trp
+        )
     }
 }
 
-// The bytes that open a frame, in hexadecimal digits (as `bus_trace` shows them: in `frame` these lines
-// would have to promise their bytes, which nothing else wants).
+// The bytes that open a frame, in hexadecimal digits.
 #[derive(Clone, Copy, Debug, PartialEq, Eq)]
 struct OpeningBytes(Option<[u8; 5]>);
 
@@ -103,7 +110,7 @@ fn record(rt: &HostRuntime, make: Make, clock: Clock) -> io::Result<()> {
     let frames = |way| frames_of(way, make, &clock, START, LENGTH).unwrap_or(0);
     let (reads, writes) = (frames(Direction::Read), frames(Direction::Write));
     println!(rt; "  row {row}, column {column}, frames {reads} to read, {writes} to write")?;
-    let Some(span) = rounded(START, LENGTH) else {
+    let Some(span) = rounded_span(START, LENGTH) else {
         return Ok(());
     };
     for direction in [Direction::Read, Direction::Write] {

@@ -7,8 +7,8 @@ ghost use Rattle.fault.specs.Names.{Named};
 use fault::Unknown;
 use std::fmt;
 
-/// The temperature range that a chip is used in. It sets tCEM: 4,000 ns in the normal range, 1,000 ns in
-/// the extended one.
+/// The temperature range that a chip is used in. It sets tCEM: 4,000 ns in the normal range,
+/// 1,000 ns in the extended one.
 #[derive(Clone, Copy, Debug, PartialEq, Eq)]
 pub enum TemperatureRange {
     Normal,

@@ -38,7 +38,8 @@ abbrev pub fault_at : {P : Type 0} → Refusal → P → Fault P
 fault_at refusal place = record { refusal = refusal; place = place }
 
 abbrev pub reason : Refusal → List ℕ
-reason BadSetup = codes "the opening is short or holds a value not listed, or the size of the input or the store is wrong"
+reason BadSetup =
+    codes "the opening is short or holds a value not listed, or the size of the input or the store is wrong"
 reason ClockOutOfRange = codes "the clock is 0 or above 133000 kHz"
 reason ClockTooSlow = codes "tCEM is less than 35 + 2 LC clocks"
 reason UnknownCommand = codes "no command has this letter"

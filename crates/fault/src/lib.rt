@@ -20,8 +20,8 @@ pub enum Layer {
 /// Why something is refused. The list is closed, and its order is the order of checking.
 #[derive(Clone, Copy, Debug, PartialEq, Eq)]
 pub enum Refusal {
-    /// 1: the opening of a script is short or holds a value that is not listed, the script is too long,
-    /// or a store is not 1 page to 16 MiB of whole pages.
+    /// 1: the opening of a script is short or holds a value that is not listed, the script is too
+    /// long, or a store is not 1 page to 16 MiB of whole pages.
     BadSetup,
     /// 2: the clock is 0 or above 133,000 kHz.
     ClockOutOfRange,

@@ -1,8 +1,8 @@
 -- The addresses of a burst: they stay in the page, and a block is gone through once. Assumes nothing.
-use Rattle.std.proofs.Common.{◌≡◌, ℕ, ◌+◌, ◌-◌, ◌/◌, ◌%◌, ◌<◌, ◌≤◌, ◌∙◌, arith}
+use Rattle.std.proofs.Common.{◌≡◌, ℕ, ◌+◌, ◌-◌, ◌/◌, ◌%◌, ◌∙◌, arith}
 use Rattle.std.proofs.lemmas.Bool.{le-ltb, cond-false}
 use Rattle.std.proofs.lemmas.Bool.Decides.{nat_tests}
-use Rattle.frame.specs.Bursts.{bytes, base, burst_address, wrapped}
+use Rattle.frame.specs.Bursts.{bytes, burst_address, wrapped}
 use Rattle.frame.specs.Orders.{Permutes, GoesOnBehind, IsBurstOrder}
 use Rattle.frame.specs.Pages.{page}
 use Rattle.frame.specs.declared.burst.Block.{Block}

@@ -8,7 +8,7 @@ use Rattle.frame.specs.declared.low.Transfer.TheVariants.{Read, Write, RegisterR
 abbrev pub data_clocks : ℕ → ℕ
 data_clocks n = (n + 1) / 2
 
--- three clocks for the opening bytes, the latency, the data; a register takes one clock, a register write a latency of 1
+-- three clocks for the opening bytes, the latency, the data: a register takes one; its write has a latency of 1
 abbrev pub low_clocks : Transfer → ℕ
 low_clocks (Read latency n) = 3 + latency + data_clocks n
 low_clocks (Write latency n) = 3 + clocks latency + data_clocks n

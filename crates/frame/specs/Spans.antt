@@ -12,4 +12,9 @@ span_of s n = record { from = s; to = s + n; ordered = le-add_right s n }
 -- two spans with the same ends are the same
 pub span_same : (s t : Span) → s.from ≡ t.from → s.to ≡ t.to → s ≡ t
 span_same s t from to =
-    λ i. record { from = from i; to = to i; ordered = is_prop→PathP (λ j. from j ≤ to j) (λ j. le_prop) s.ordered t.ordered i }
+    λ i.
+    record {
+      from = from i;
+      to = to i;
+      ordered = is_prop→PathP (λ j. from j ≤ to j) (λ j. le_prop) s.ordered t.ordered i;
+    }

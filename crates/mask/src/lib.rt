@@ -1,4 +1,5 @@
-//! Masks: one bit for each byte of a write, lowest bit first; a set bit means that it is not written.
+//! Masks: one bit for each byte of a write, lowest bit first; a set bit means that the byte is not
+//! written.
 #![tactic(auto)]
 
 ghost use Rattle.std.specs.Prelude.{◌≡◌, ℕ, ◌*◌, ◌↔◌, length, IsTrue};
@@ -49,7 +50,8 @@ pub fn masks_past(mask: &[u8], count: usize) -> bool
 /// bit is set past, these are its masked bytes.
 pub fn masked_bytes(mask: &[u8]) -> u64
     ensures value { result ≡ saturated (masked_among mask.now (8 * length mask.now)) }
-    ensures among { (n : ℕ) → ¬ MasksPast mask.now n → result ≡ saturated (masked_among mask.now n) }
+    ensures among { (n : ℕ) → ¬ MasksPast mask.now n
+        → result ≡ saturated (masked_among mask.now n) }
 {
     let mut count = 0u64;
     for byte in mask {

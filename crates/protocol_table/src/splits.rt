@@ -15,7 +15,6 @@ struct Setup {
 }
 
 impl Setup {
-    // `TryFrom` would want an error, which every caller would turn into None.
     fn of(words: &[Word]) -> Option<Setup> {
         let [Word::Command(command), Word::Make(make), clock @ ..] = words else {
             return None;
@@ -46,12 +45,15 @@ pub fn pieces(heap: Global, words: &[Word]) -> Option<String> {
     };
     let setup = Setup::of(setup)?;
     let splitter = Splitter::new(setup.direction, setup.make, &setup.clock, *latency);
+    if from > to {
+        return None;
+    }
     let span = Span {
         from: *from,
         to: *to,
     };
     let limit = Item::Number(splitter.limit);
-    let next = Item::Number(splitter.next(span));
+    let next = Item::Number(splitter.next_length(span));
     let count = Item::Number(splitter.count(span));
     shown(heap, &[limit, next, count])
 }
@@ -73,7 +75,7 @@ pub fn rounded(heap: Global, words: &[Word]) -> Option<String> {
     let [Word::Number(start), Word::Number(length)] = words else {
         return None;
     };
-    match split::rounded(*start, *length) {
+    match split::rounded_span(*start, *length) {
         Some(Span { from, to }) => shown(heap, &[Item::Number(from), Item::Number(to)]),
         None => shown(heap, &[]),
     }

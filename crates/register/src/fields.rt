@@ -88,8 +88,8 @@ fn write_code(wl: Latency) -> u8
     }
 }
 
-/// What a value of MR0 means. A reserved read code reads as latency 5, and bits without a name count
-/// for nothing.
+/// What a value of MR0 means. A reserved read code reads as latency 5, and bits without a name
+/// count for nothing.
 impl From<u8> for Mr0 {
     ghost from_gives = { λ v r. r ≡ mr0 v };
 
@@ -121,8 +121,8 @@ impl Mr0 {
     }
 }
 
-/// What a value of MR4 means. A reserved write code reads as latency 5, and bits without a name count
-/// for nothing.
+/// What a value of MR4 means. A reserved write code reads as latency 5, and bits without a name
+/// count for nothing.
 impl From<u8> for Mr4 {
     ghost from_gives = { λ v r. r ≡ mr4 v };
 
@@ -232,8 +232,8 @@ impl CacheLine {
     }
 }
 
-/// The burst on the wire of a frame that carries `carried`: linear by its command, else what this value
-/// of MR8 says.
+/// The burst on the wire of a frame that carries `carried`: linear by its command, else what this
+/// value of MR8 says.
 pub fn on_wire(carried: Burst, mr8: u8) -> Burst
     ensures { result ≡ on_wire carried mr8 }
 {

@@ -1,4 +1,4 @@
 pub mod Longest
 pub mod Fewest
 pub mod Edges
-pub mod Rounding
+pub mod Roundings

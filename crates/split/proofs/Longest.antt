@@ -7,53 +7,53 @@ use Rattle.frame.specs.Spans.{span_of, span_same}
 use Rattle.frame.specs.declared.span.Span.{Span}
 use Rattle.frame.specs.declared.make.Make.{Make}
 use Rattle.frame.specs.declared.make.Make.TheVariants as make
-use Rattle.split.specs.Splits.{fits, next_piece, Lawful, taking, placed, TakesLongest}
+use Rattle.split.specs.Splits.{fits, next_length, IsLawful, lengths_by, pieces_from, TakesLongest}
 
 -- there are as many pieces as lengths, and no more than may be taken
-pub length_placed : (s : ℕ) (ns : List ℕ) → length (placed s ns) ≡ length ns
-length_placed s [] = refl
-length_placed s (n ∷ ns) = ap (λ k. suc k) (length_placed (s + n) ns)
+pub length_pieces_from : (s : ℕ) (ns : List ℕ) → length (pieces_from s ns) ≡ length ns
+length_pieces_from s [] = refl
+length_pieces_from s (n ∷ ns) = ap (λ k. suc k) (length_pieces_from (s + n) ns)
 
-pub few : (next : ℕ → ℕ → ℕ) (most s e : ℕ) → length (taking next most s e) ≤ most
+pub few : (next : ℕ → ℕ → ℕ) (most s e : ℕ) → length (lengths_by next most s e) ≤ most
 few next zero s e = omega arith
 few next (suc most) s e = grind (arith, nat_tests, few next most (s + next s e) e)
 
 module _ {fit : ℕ → ℕ → Bool} {next : ℕ → ℕ → ℕ} (rule : TakesLongest fit next) where
   -- nothing is left
-  pub taking_none : (most s e : ℕ) → e ≤ s → taking next most s e ≡ []
-  taking_none zero s e h = refl
-  taking_none (suc most) s e h = cond-false _ _ _ (le-ltb s e h)
+  pub lengths_none : (most s e : ℕ) → e ≤ s → lengths_by next most s e ≡ []
+  lengths_none zero s e h = refl
+  lengths_none (suc most) s e h = cond-false _ _ _ (le-ltb s e h)
 
   -- one piece and the rest
-  pub taking_one : (most s e : ℕ) → s < e → taking next (suc most) s e ≡ next s e ∷ taking next most (s + next s e) e
-  taking_one most s e h = cond-true _ _ _ (lt-ltb s e h)
+  pub lengths_one : (most s e : ℕ) → s < e → lengths_by next (suc most) s e ≡ next s e ∷ lengths_by next most (s + next s e) e
+  lengths_one most s e h = cond-true _ _ _ (lt-ltb s e h)
 
   -- how many may be taken does not matter where it suffices
-  pub enough : (f g s e : ℕ) → e - s ≤ f → e - s ≤ g → taking next f s e ≡ taking next g s e
-  enough zero g s e h k = sym (taking_none g s e (omega arith))
-  enough (suc f) zero s e h k = taking_none (suc f) s e (omega arith)
+  pub enough : (f g s e : ℕ) → e - s ≤ f → e - s ≤ g → lengths_by next f s e ≡ lengths_by next g s e
+  enough zero g s e h k = sym (lengths_none g s e (omega arith))
+  enough (suc f) zero s e h k = lengths_none (suc f) s e (omega arith)
   enough (suc f) (suc g) s e h k = grind (arith, nat_tests, rule.some s e, enough f g (s + next s e) e)
 
   -- the split of what is left is one piece and the split of the rest
-  pub step : (s e : ℕ) → s < e → taking next (e - s) s e ≡ next s e ∷ taking next (e - (s + next s e)) (s + next s e) e
+  pub step : (s e : ℕ) → s < e → lengths_by next (e - s) s e ≡ next s e ∷ lengths_by next (e - (s + next s e)) (s + next s e) e
   step s e h =
-      enough (e - s) (suc (e - s)) s e (omega arith) (omega arith) ∙ taking_one (e - s) s e h
+      enough (e - s) (suc (e - s)) s e (omega arith) (omega arith) ∙ lengths_one (e - s) s e h
       ∙ ap (λ ns. next s e ∷ ns) (enough (e - s) (e - (s + next s e)) (s + next s e) e (omega arith) (omega arith))
 
   -- the same of the pieces in their places
-  pub step_placed : (s e n : ℕ) (piece : Span) → s < e → n ≡ next s e → piece.from ≡ s → piece.to ≡ s + n → placed s (taking next (e - s) s e) ≡ piece ∷ placed (s + n) (taking next (e - (s + n)) (s + n) e)
-  step_placed s e n piece h is from to =
-      rw is (ap (placed s) (step s e h)) ∙ ap (λ first. first ∷ placed (s + n) (taking next (e - (s + n)) (s + n) e)) (span_same (span_of s n) piece (sym from) (sym to))
+  pub step_pieces_from : (s e n : ℕ) (piece : Span) → s < e → n ≡ next s e → piece.from ≡ s → piece.to ≡ s + n → pieces_from s (lengths_by next (e - s) s e) ≡ piece ∷ pieces_from (s + n) (lengths_by next (e - (s + n)) (s + n) e)
+  step_pieces_from s e n piece h is from to =
+      rw is (ap (pieces_from s) (step s e h)) ∙ ap (λ first. first ∷ pieces_from (s + n) (lengths_by next (e - (s + n)) (s + n) e)) (span_same (span_of s n) piece (sym from) (sym to))
 
-  lawful_by : (most s e : ℕ) → e - s ≤ most → s % 2 ≡ 0 → e % 2 ≡ 0 → s ≤ e → Lawful fit s e (taking next most s e)
+  lawful_by : (most s e : ℕ) → e - s ≤ most → s % 2 ≡ 0 → e % 2 ≡ 0 → s ≤ e → IsLawful fit s e (lengths_by next most s e)
   lawful_by zero s e h i j k = omega arith
   lawful_by (suc most) s e h i j k = grind (arith, nat_tests, rule.some s e, rule.even s e i j, rule.within s e, rule.fitting s e, lawful_by most (s + next s e) e)
 
-  pub lawful : (s e : ℕ) → s % 2 ≡ 0 → e % 2 ≡ 0 → s ≤ e → Lawful fit s e (taking next (e - s) s e)
+  pub lawful : (s e : ℕ) → s % 2 ≡ 0 → e % 2 ≡ 0 → s ≤ e → IsLawful fit s e (lengths_by next (e - s) s e)
   lawful s e = lawful_by (e - s) s e (omega arith)
 
 -- the next piece of a splitter is the longest that fits, for pages in which an even start leaves an even rest
-longest_in : (p limit : ℕ) → 0 < limit → limit % 2 ≡ 0 → ((s : ℕ) → s % p < p) → ((s : ℕ) → s % 2 ≡ 0 → (p - s % p) % 2 ≡ 0) → TakesLongest (fits p limit) (next_piece p limit)
+longest_in : (p limit : ℕ) → 0 < limit → limit % 2 ≡ 0 → ((s : ℕ) → s % p < p) → ((s : ℕ) → s % 2 ≡ 0 → (p - s % p) % 2 ≡ 0) → TakesLongest (fits p limit) (next_length p limit)
 longest_in p limit some even column rest = record {
   some = λ s e h. omega (arith, column s);
   within = λ s e h. omega arith;
@@ -62,6 +62,6 @@ longest_in p limit some even column rest = record {
   most = λ s e n h k. grind (arith, nat_tests);
 }
 
-pub takes_longest : (m : Make) (limit : ℕ) → 0 < limit → limit % 2 ≡ 0 → TakesLongest (fits (page m) limit) (next_piece (page m) limit)
+pub takes_longest : (m : Make) (limit : ℕ) → 0 < limit → limit % 2 ≡ 0 → TakesLongest (fits (page m) limit) (next_length (page m) limit)
 takes_longest make.A limit some even = longest_in 1024 limit some even (λ s. omega arith) (λ s i. omega arith)
 takes_longest make.S limit some even = longest_in 2048 limit some even (λ s. omega arith) (λ s i. omega arith)

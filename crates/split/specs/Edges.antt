@@ -2,7 +2,7 @@
 use Rattle.std.specs.Prelude.{◌≡◌, ℕ, [], ◌∷◌, map, Some, None}
 use Rattle.std.specs.List.{range_with_len}
 use Rattle.clock.specs.Made.{refused}
-use Rattle.clock.specs.Times.{TCPH, TRC, TRST, TPU, TRP, tcem_ns, latency, whole, started}
+use Rattle.clock.specs.Times.{tcph_ns, trc_ns, trst_ns, tpu_ns, trp_ns, tcem_ns, latency, whole, started}
 use Rattle.clock.specs.declared.range.TemperatureRange.{TemperatureRange}
 use Rattle.clock.specs.declared.range.TemperatureRange.TheVariants.{Normal, Extended}
 use Rattle.fault.specs.declared.Refusal.TheVariants.{ClockTooSlow}
@@ -26,11 +26,11 @@ pub record EdgeValues : Type 0 where
   -- 133,000 kHz: the clock numbers
   pub tcem_normal : whole (tcem_ns Normal) 133000 ≡ 532
   pub tcem_extended : whole (tcem_ns Extended) 133000 ≡ 133
-  pub tcph : started TCPH 133000 ≡ 3
-  pub trc : started TRC 133000 ≡ 8
-  pub trst : started TRST 133000 ≡ 266
-  pub tpu : started TPU 133000 ≡ 19950
-  pub trp : started TRP 133000 ≡ 133
+  pub tcph : started tcph_ns 133000 ≡ 3
+  pub trc : started trc_ns 133000 ≡ 8
+  pub trst : started trst_ns 133000 ≡ 266
+  pub tpu : started tpu_ns 133000 ≡ 19950
+  pub trp : started trp_ns 133000 ≡ 133
   -- the slowest clocks
   pub extended_taken : refused 41000 Extended ≡ None
   pub extended_refused : refused 40999 Extended ≡ Some ClockTooSlow
@@ -41,7 +41,10 @@ pub record EdgeValues : Type 0 where
   pub place_a : row_and_column make.A 0x804 ≡ (2, 4)
   pub place_s : row_and_column make.S 0x804 ≡ (1, 4)
   -- hybrid 16 from 2, 18 bytes
-  pub hybrid : (m : Make) → map (burst_address m (Hybrid Bytes16) 2) (range_with_len 0 18) ≡ 2 ∷ 3 ∷ 4 ∷ 5 ∷ 6 ∷ 7 ∷ 8 ∷ 9 ∷ 10 ∷ 11 ∷ 12 ∷ 13 ∷ 14 ∷ 15 ∷ 0 ∷ 1 ∷ 16 ∷ 17 ∷ []
+  pub hybrid :
+      (m : Make)
+      → map (burst_address m (Hybrid Bytes16) 2) (range_with_len 0 18)
+      ≡ 2 ∷ 3 ∷ 4 ∷ 5 ∷ 6 ∷ 7 ∷ 8 ∷ 9 ∷ 10 ∷ 11 ∷ 12 ∷ 13 ∷ 14 ∷ 15 ∷ 0 ∷ 1 ∷ 16 ∷ 17 ∷ []
   -- S in the normal range at 133,000 kHz: the longest read in one frame
   pub read_one : frames_at Read make.S 133000 Normal 0 1038 ≡ 1
   pub read_longer : frames_at Read make.S 133000 Normal 0 1040 ≡ 2

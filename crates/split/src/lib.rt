@@ -1,4 +1,4 @@
-// Splitting a range of addresses into pieces, one for each frame.
+//! Splitting a range of addresses into pieces, one for each frame.
 #![tactic(auto)]
 
 mod direction;
@@ -7,6 +7,6 @@ mod pieces;
 mod splitter;
 
 pub use direction::Direction;
-pub use frames::{frames_of, rounded};
+pub use frames::{frames_of, rounded_span};
 pub use pieces::Pieces;
 pub use splitter::Splitter;
