@@ -32,7 +32,7 @@ mod trace;
 use anyhow::{bail, ensure};
 use chips::{model, opening_of, refused};
 use frame::Make;
-use layers::Scrambler;
+use scrambler::Scrambler;
 use model::{Part, PartA, PartS};
 use script::{Opening, Stack};
 use std::io;

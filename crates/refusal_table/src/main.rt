@@ -34,10 +34,11 @@ use attempt::{List, Refused, stayed};
 use chip::Chip;
 use chips::{model, opening_of, refused};
 use frame::Make;
-use layers::{Scrambler, Window};
+use scrambler::Scrambler;
 use model::{Part, PartA, PartS};
 use script::{Opening, Stack};
 use std::io;
+use window::Window;
 
 // Tries a list on a chip of a part, bare or below the layers of its opening.
 fn play<P: Part>(rt: &HostRuntime, opening: &Opening, list: List<'_>) -> anyhow::Result<()> {
