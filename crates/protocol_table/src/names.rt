@@ -3,7 +3,7 @@ use crate::words::{Ask, Word};
 use clock::{Latency, TemperatureRange};
 use fault::Refusal;
 use frame::{Block, Burst, Command, Make};
-use register::{Coverage, LatencyType, CacheLine};
+use register::{CacheLine, Coverage, LatencyType};
 
 static NAMES: [(&str, Word); 76] = [
     ("clock", Word::Ask(Ask::Clock)),

@@ -3,7 +3,7 @@ use crate::names::named;
 use clock::{Clock, Latency, TemperatureRange};
 use fault::Refusal;
 use frame::{Burst, Command, Make};
-use register::{Coverage, LatencyType, CacheLine};
+use register::{CacheLine, Coverage, LatencyType};
 use std::alloc::Global;
 
 // What a row asks for: its first word.

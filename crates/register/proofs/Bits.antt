@@ -4,7 +4,7 @@ use Rattle.std.proofs.lemmas.Nat.{and_mask, or_shifted}
 use Rattle.std.proofs.lemmas.Bool.Decides.{nat_tests}
 use Rattle.clock.specs.declared.range.Latency.{Latency}
 use Rattle.clock.specs.declared.range.Latency.TheVariants.{Three, Four, Five}
-use Rattle.register.specs.Registers.{bits, mr0_value, mr4_value}
+use Rattle.register.specs.Registers.{bits, read_latency, write_latency, coverage_of, mr0_value, mr4_value}
 use Rattle.register.specs.Written.{WritesMr0, WritesMr4}
 use Rattle.register.specs.declared.fields.Coverage.{Coverage}
 use Rattle.register.specs.declared.fields.Coverage.TheVariants.{All}
@@ -43,6 +43,7 @@ fields_of_mr4 write coverage w c =
     ap (λ x. bit_or x coverage) high ∙ or_shifted write 5 coverage (omega arith) ∙ omega arith
 
 pub writes_mr0 : (lc : Latency) (latency_type : LatencyType) (drive v : ℕ) → v ≡ mr0_value lc latency_type drive → WritesMr0 lc latency_type drive v
+unfolding read_latency
 writes_mr0 Three Variable drive v is = record { taken = grind (arith, nat_tests); means = grind (arith, nat_tests) }
 writes_mr0 Three Fixed drive v is = record { taken = grind (arith, nat_tests); means = grind (arith, nat_tests) }
 writes_mr0 Four Variable drive v is = record { taken = grind (arith, nat_tests); means = grind (arith, nat_tests) }
@@ -51,14 +52,17 @@ writes_mr0 Five Variable drive v is = record { taken = grind (arith, nat_tests);
 writes_mr0 Five Fixed drive v is = record { taken = grind (arith, nat_tests); means = grind (arith, nat_tests) }
 
 writes_three : (coverage : Coverage) (v : ℕ) → v ≡ mr4_value Three coverage → WritesMr4 Three coverage v
+unfolding write_latency coverage_of
 writes_three All v is = subst (λ x. WritesMr4 Three All x) (sym is) (record { taken = refl; means = refl })
 writes_three coverage v is = subst (λ x. WritesMr4 Three coverage x) (sym is) (record { taken = refl; means = refl })
 
 writes_four : (coverage : Coverage) (v : ℕ) → v ≡ mr4_value Four coverage → WritesMr4 Four coverage v
+unfolding write_latency coverage_of
 writes_four All v is = subst (λ x. WritesMr4 Four All x) (sym is) (record { taken = refl; means = refl })
 writes_four coverage v is = subst (λ x. WritesMr4 Four coverage x) (sym is) (record { taken = refl; means = refl })
 
 writes_five : (coverage : Coverage) (v : ℕ) → v ≡ mr4_value Five coverage → WritesMr4 Five coverage v
+unfolding write_latency coverage_of
 writes_five All v is = subst (λ x. WritesMr4 Five All x) (sym is) (record { taken = refl; means = refl })
 writes_five coverage v is = subst (λ x. WritesMr4 Five coverage x) (sym is) (record { taken = refl; means = refl })
 

@@ -62,16 +62,16 @@ blocks = block.Bytes16 ∷ block.Bytes32 ∷ block.Bytes64 ∷ block.Page ∷ []
 
 -- what the codes stand for: a reserved latency code reads as 5
 
-abbrev pub read_latency : ℕ → Latency
+unfoldable pub read_latency : ℕ → Latency
 read_latency code = unwrap_or (named read_code latencies code) Five
 
-abbrev pub write_latency : ℕ → Latency
+unfoldable pub write_latency : ℕ → Latency
 write_latency code = unwrap_or (named write_code latencies code) Five
 
-abbrev pub coverage_of : ℕ → Coverage
+unfoldable pub coverage_of : ℕ → Coverage
 coverage_of code = unwrap_or (named coverage_code coverages code) TopEighth
 
-abbrev pub block_of : ℕ → Block
+unfoldable pub block_of : ℕ → Block
 block_of code = unwrap_or (named block_code blocks code) block.Page
 
 -- the bits from high down to low of a value

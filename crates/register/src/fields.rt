@@ -93,6 +93,7 @@ fn write_code(wl: Latency) -> u8
 impl From<u8> for Mr0 {
     ghost from_gives = { λ v r. r ≡ mr0 v };
 
+    #[tactic(auto, unfolding(crate::specs::Registers::read_latency))]
     fn from(value: u8) -> Mr0 {
         Mr0 {
             latency_type: match bits(value, 5, 5) {
@@ -126,6 +127,7 @@ impl Mr0 {
 impl From<u8> for Mr4 {
     ghost from_gives = { λ v r. r ≡ mr4 v };
 
+    #[tactic(auto, unfolding(crate::specs::Registers::write_latency, crate::specs::Registers::coverage_of))]
     fn from(value: u8) -> Mr4 {
         Mr4 {
             wl: match bits(value, 7, 5) {
@@ -202,6 +204,7 @@ impl Coverage {
 impl From<u8> for Mr8 {
     ghost from_gives = { λ v r. r.burst ≡ mr8 v };
 
+    #[tactic(auto, unfolding(crate::specs::Registers::block_of))]
     fn from(value: u8) -> Mr8 {
         let block = match bits(value, 1, 0) {
             0 => Block::Bytes16,
@@ -220,6 +223,7 @@ impl From<u8> for Mr8 {
 
 impl CacheLine {
     /// The value of MR8 for the wrapped read of a line.
+    #[tactic(auto, unfolding(crate::specs::Registers::block_of))]
     pub fn mr8(self) -> u8
         ensures value { result ≡ mr8_value self }
         ensures writes { WritesMr8 self result }
