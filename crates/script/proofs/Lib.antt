@@ -1,3 +1,5 @@
+pub mod Numbers
 pub mod Openings
-pub mod Commands
 pub mod Comes
+pub mod Written
+pub mod Scripts

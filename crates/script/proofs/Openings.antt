@@ -1,51 +1,96 @@
 -- What an opening is refused by, and what one that is not says. Assumes nothing.
-use Rattle.std.proofs.Common.{◌≡◌, ◌≢◌, ℕ, ◌≤◌, true, List, length, get_or, drop, Some, Option, Err, sym, ap, ◌∙◌, arith}
-use Rattle.std.proofs.lemmas.Bool.{and_from, and_left, and_right, or_from, cond-true, cond-false, le-leb, ne_eqb}
-use Rattle.std.proofs.lemmas.Option.{cond_some}
+use Rattle.std.proofs.Common.{◌≡◌, ◌≢◌, ℕ, ◌<◌, ◌≤◌, true, false, cond, List, length, get_or, drop, Some, None, Err, ◌⊎◌, ⊎_elim, sym, refl, ap, ◌∙◌, arith, length-drop}
+use Rattle.std.specs.Prelude.{is_some, unwrap_or}
+use Rattle.std.proofs.lemmas.Bool.{and_from, and_left, and_right, cond-true, cond-false, le-leb, lt-leb, ne_eqb, cases_lt}
 use Rattle.clock.specs.Letters as range
 use Rattle.clock.specs.Made as clock
 use Rattle.clock.specs.declared.range.TemperatureRange.{TemperatureRange}
 use Rattle.clock.specs.declared.range.TemperatureRange.TheVariants.{Normal, Extended}
+use Rattle.fault.specs.Names.{Named}
 use Rattle.fault.specs.declared.Refusal.{Refusal}
 use Rattle.fault.specs.declared.Refusal.TheVariants.{BadSetup}
+use Rattle.fault.specs.declared.Unknown.{Unknown}
 use Rattle.frame.specs.Letters as make
 use Rattle.frame.specs.declared.make.Make.{Make}
 use Rattle.frame.specs.declared.make.Make.TheVariants.{A, S}
-use Rattle.fault.specs.Names.{Named}
-use Rattle.fault.specs.declared.Unknown.{Unknown}
-use Rattle.script.specs.Openings.{two, four, is_make, make_of, is_pages, is_range, range_of, is_stack, stack_of, well_formed, refused, fields}
-use Rattle.script.specs.Parts.{stack_letter}
+use Rattle.script.specs.Numbers.{u16_at, u32_at}
+use Rattle.script.specs.Openings.{make_of_letter, range_of_letter, stack_of_letter, make_at, range_at, stack_at, is_well_formed, opening_refusal, fields_at_front}
 use Rattle.script.specs.declared.opening.Stack.{Stack}
-use Rattle.script.proofs.Comes.{is_make_byte, make_back, is_range_byte, range_back}
+use Rattle.script.specs.declared.opening.Stack.TheVariants.{Plain}
+use Rattle.script.proofs.Numbers.{further, byte_at_place}
 
--- letters that stand for nothing, and letters that stand for something
-pub unknown_make : (bs : List ℕ) (e : Refusal) → (e ≡ BadSetup) × ((u : Unknown ℕ) × Named make.letter (get_or bs 0 0) (Err u)) → refused bs ≡ Some e
-unknown_make bs e (is, (u, none)) =
-    cond-false (well_formed bs) _ _ (and_right _ _ (and_left _ _ (and_left _ _ (or_from _ _ (ne_eqb _ 65 (λ q. none.1 A (sym q))) (ne_eqb _ 83 (λ q. none.1 S (sym q))))))) ∙ ap Some (sym is)
+-- the stack is read behind its letter
+stack_there : (bs r : List ℕ) (n : ℕ) → r ≡ drop 14 bs → n ≡ u16_at bs 1 → stack_of_letter (get_or r 0 0) n (drop 1 r) ≡ stack_at bs
+stack_there bs r n at number = λ i. stack_of_letter (byte_at_place bs r 14 at i) (number i) (further bs r (drop 1 r) 14 1 at refl i)
 
-pub unknown_range : (bs : List ℕ) (e : Refusal) → (e ≡ BadSetup) × ((u : Unknown ℕ) × Named range.letter (get_or bs 7 0) (Err u)) → refused bs ≡ Some e
-unknown_range bs e (is, (u, none)) =
-    cond-false (well_formed bs) _ _ (and_right _ _ (and_right _ _ (and_left _ _ (or_from _ _ (ne_eqb _ 78 (λ q. none.1 Normal (sym q))) (ne_eqb _ 88 (λ q. none.1 Extended (sym q))))))) ∙ ap Some (sym is)
+malformed : (bs : List ℕ) (e : Refusal) → is_well_formed bs ≡ false → e ≡ BadSetup → opening_refusal bs ≡ Some e
+unfolding opening_refusal
+malformed bs e ill is = cond-false (is_well_formed bs) _ _ ill ∙ ap Some (sym is)
 
-known_make : (b : ℕ) (m : Make) → make.letter m ≡ b → (is_make b ≡ true) × (m ≡ make_of b)
-known_make b m e = (ap is_make (sym e) ∙ is_make_byte m, sym (make_back m) ∙ ap make_of e)
+-- too short and too long
+pub short : (bs : List ℕ) (e : Refusal) → length bs < 15 → e ≡ BadSetup → opening_refusal bs ≡ Some e
+short bs e lt is =
+    malformed bs e (and_left _ _ (and_left _ _ (and_left _ _ (and_left _ _ (and_left _ _ (and_left _ _ (lt-leb 15 (length bs) lt))))))) is
 
-known_range : (b : ℕ) (r : TemperatureRange) → range.letter r ≡ b → (is_range b ≡ true) × (r ≡ range_of b)
-known_range b r e = (ap is_range (sym e) ∙ is_range_byte r, sym (range_back r) ∙ ap range_of e)
+pub long : (bs : List ℕ) (e : Refusal) → 32768 < length bs → e ≡ BadSetup → opening_refusal bs ≡ Some e
+long bs e lt is =
+    malformed bs e (and_left _ _ (and_left _ _ (and_left _ _ (and_left _ _ (and_left _ _ (and_right _ _ (lt-leb (length bs) 32768 lt))))))) is
+
+-- letters that stand for nothing
+no_make : (b : ℕ) (u : Unknown ℕ) → Named make.letter b (Err u) → is_some (make_of_letter b) ≡ false
+no_make b u none = λ i. is_some (cond (ne_eqb b 65 (λ q. none.1 A (sym q)) i) (Some A) (cond (ne_eqb b 83 (λ q. none.1 S (sym q)) i) (Some S) None))
+
+no_range : (b : ℕ) (u : Unknown ℕ) → Named range.letter b (Err u) → is_some (range_of_letter b) ≡ false
+no_range b u none = λ i. is_some (cond (ne_eqb b 78 (λ q. none.1 Normal (sym q)) i) (Some Normal) (cond (ne_eqb b 88 (λ q. none.1 Extended (sym q)) i) (Some Extended) None))
+
+pub bad_make : (bs r : List ℕ) (e : Refusal) → r ≡ bs → (1 ≤ length r → (u : Unknown ℕ) × Named make.letter (get_or r 0 0) (Err u)) → e ≡ BadSetup → opening_refusal bs ≡ Some e
+bad_make bs r e at unknown is =
+    ⊎_elim (λ lt. short bs e (omega (arith, ap length at)) is)
+    (λ some. let u = unknown some in
+    malformed bs e (and_left _ _ (and_left _ _ (and_left _ _ (and_left _ _ (and_right _ _ (ap (λ l. is_some (make_of_letter (get_or l 0 0))) (sym at) ∙ no_make _ u.0 u.1)))))) is)
+    (cases_lt (length r) 1)
+
+pub bad_range : (bs r : List ℕ) (e : Refusal) → r ≡ drop 7 bs → (1 ≤ length r → (u : Unknown ℕ) × Named range.letter (get_or r 0 0) (Err u)) → e ≡ BadSetup → opening_refusal bs ≡ Some e
+bad_range bs r e at unknown is =
+    ⊎_elim (λ lt. short bs e (omega (arith, ap length at, length-drop 7 bs)) is)
+    (λ some. let u = unknown some in
+    malformed bs e (and_left _ _ (and_right _ _ (ap (λ b. is_some (range_of_letter b)) (sym (byte_at_place bs r 7 at)) ∙ no_range _ u.0 u.1))) is)
+    (cases_lt (length r) 1)
+
+pub bad_pages : (bs : List ℕ) (n : ℕ) (e : Refusal) → n ≡ u16_at bs 1 → (n ≡ 0) ⊎ ((n ≡ 0 → ⊥) × (16 < n)) → e ≡ BadSetup → opening_refusal bs ≡ Some e
+bad_pages bs n e number out is =
+    ⊎_elim (λ none. malformed bs e (and_left _ _ (and_left _ _ (and_left _ _ (and_right _ _ (lt-leb 1 (u16_at bs 1) (omega arith)))))) is)
+    (λ many. malformed bs e (and_left _ _ (and_left _ _ (and_right _ _ (lt-leb (u16_at bs 1) 16 (omega (arith, many.1)))))) is) out
+
+pub bad_stack : (bs r : List ℕ) (n : ℕ) (e : Refusal) → r ≡ drop 14 bs → n ≡ u16_at bs 1 → stack_of_letter (get_or r 0 0) n (drop 1 r) ≡ None → e ≡ BadSetup → opening_refusal bs ≡ Some e
+bad_stack bs r n e at number none is = malformed bs e (and_right _ _ (ap is_some (sym (stack_there bs r n at number) ∙ none))) is
 
 -- an opening of which every value is listed
-pub record Formed (bs : List ℕ) (m : Make) (n khz : ℕ) (r : TemperatureRange) (s : Stack) : Type 0 where
-  pub clock : refused bs ≡ clock.refused khz r
-  pub says : (k : ℕ) (range : TemperatureRange) (refresh strobes : ℕ) → k ≡ khz → range ≡ r → refresh ≡ four bs 8 → strobes ≡ two bs 12 → record { make = m; pages = n; khz = k; range = range; refresh = refresh; strobes = strobes; stack = s } ≡ fields bs
+pub record Formed (bs : List ℕ) (m : Make) (khz : ℕ) (r : TemperatureRange) (s : Stack) : Type 0 where
+  pub refusal : opening_refusal bs ≡ clock.refused khz r
+  pub make : m ≡ (fields_at_front bs).make
+  pub range : r ≡ (fields_at_front bs).range
+  pub stack : s ≡ (fields_at_front bs).stack
 
-pub formed : (bs rest : List ℕ) (m : Make) (n khz letter : ℕ) (r : TemperatureRange) (s : Stack) (o : Option Stack) → 15 ≤ length bs → length bs ≤ 32768 → n ≡ two bs 1 → n ≢ 0 → n ≤ 16 → make.letter m ≡ get_or bs 0 0 → range.letter r ≡ get_or bs 7 0 → letter ≡ get_or bs 14 0 → o ≡ stack_letter letter n rest → o ≡ Some s → rest ≡ drop 15 bs → khz ≡ four bs 3 → Formed bs m n khz r s
-formed bs rest m n khz letter r s o some few number paged small make_is range_is at stacked stack behind clocked =
-    let make = known_make _ m make_is in
-    let range = known_range _ r range_is in
-    let st = cond_some (is_stack (get_or bs 14 0) (two bs 1) (drop 15 bs)) (stack_of (get_or bs 14 0) (drop 15 bs)) s ((λ i. stack_letter (sym at i) (sym number i) (sym behind i)) ∙ sym stacked ∙ stack) in
-    let pages : is_pages (two bs 1) ≡ true = and_from _ _ (le-leb 1 (two bs 1) (omega arith)) (le-leb (two bs 1) 16 (omega arith)) in
-    let well : well_formed bs ≡ true = and_from _ _ (and_from _ _ (le-leb 15 _ some) (le-leb _ 32768 few)) (and_from _ _ (and_from _ _ make.0 pages) (and_from _ _ range.0 st.0)) in
+known_make : (b : ℕ) (m : Make) → make.letter m ≡ b → make_of_letter b ≡ Some m
+known_make b A e = ap make_of_letter (sym e)
+known_make b S e = ap make_of_letter (sym e)
+
+known_range : (b : ℕ) (r : TemperatureRange) → range.letter r ≡ b → range_of_letter b ≡ Some r
+known_range b Normal e = ap range_of_letter (sym e)
+known_range b Extended e = ap range_of_letter (sym e)
+
+pub formed : (bs r : List ℕ) (m : Make) (n khz : ℕ) (t : TemperatureRange) (s : Stack) → 15 ≤ length bs → length bs ≤ 32768 → make.letter m ≡ get_or bs 0 0 → n ≡ u16_at bs 1 → n ≢ 0 → n ≤ 16 → khz ≡ u32_at bs 3 → range.letter t ≡ get_or bs 7 0 → r ≡ drop 14 bs → stack_of_letter (get_or r 0 0) n (drop 1 r) ≡ Some s → Formed bs m khz t s
+unfolding opening_refusal
+formed bs r m n khz t s some few make_is number paged small clocked range_is at stacked =
+    let make : make_at bs ≡ Some m = known_make _ m make_is in
+    let range : range_at bs ≡ Some t = known_range _ t range_is in
+    let stack : stack_at bs ≡ Some s = sym (stack_there bs r n at number) ∙ stacked in
+    let well : is_well_formed bs ≡ true =
+    and_from _ _ (and_from _ _ (and_from _ _ (and_from _ _ (and_from _ _ (and_from _ _ (le-leb 15 _ some) (le-leb _ 32768 few)) (ap is_some make)) (le-leb 1 (u16_at bs 1) (omega arith))) (le-leb (u16_at bs 1) 16 (omega arith))) (ap is_some range)) (ap is_some stack) in
     record {
-      clock = cond-true (well_formed bs) _ _ well ∙ (λ i. clock.refused (sym clocked i) (sym range.1 i));
-      says = λ k v refresh strobes k_is v_is a b. λ i. record { make = make.1 i; pages = number i; khz = (k_is ∙ clocked) i; range = (v_is ∙ range.1) i; refresh = a i; strobes = b i; stack = sym st.1 i };
+      refusal = cond-true (is_well_formed bs) _ _ well ∙ (λ i. clock.refused (sym clocked i) (unwrap_or (range i) Normal));
+      make = λ i. unwrap_or (sym make i) A;
+      range = λ i. unwrap_or (sym range i) Normal;
+      stack = λ i. unwrap_or (sym stack i) Plain;
     }

@@ -1,3 +1,4 @@
+pub mod Numbers
 pub mod Openings
-pub mod Parts
 pub mod Commands
+pub mod Scripts

@@ -1,6 +1,6 @@
 use Rattle.std.proofs.Common.{◌+◌, ◌≤◌, length, vec_items, vec_len, vec_capacity}
-use Rattle.listing.proofs.Scripts.{Filling}
-use Rattle.listing.proofs.list.Given as goal
+use Rattle.script.proofs.Scripts.{Filling}
+use Rattle.script.proofs.listing.list.Given as goal
 
 abbrev pub invariant-loop-rest : goal.invariant-loop-rest
 invariant-loop-rest g l =
