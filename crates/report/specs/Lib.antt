@@ -1,3 +1,5 @@
+pub mod Hex
 pub mod Lines
-pub mod Firsts
-pub mod Commands
+pub mod FirstLines
+pub mod CommandLines
+pub mod Words

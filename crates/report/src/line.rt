@@ -1,21 +1,21 @@
-// The lines of the report after the first, one for each command.
+//! The lines of the report after the first, one for each command.
 ghost use Rattle.std.specs.Prelude.{Some};
-ghost use Rattle.report.specs.Commands.{cost_part, data_part, line};
+ghost use Rattle.report.specs.CommandLines.{cost_part, data_part, line};
 
+use crate::hex::{Address, HexByte, HexBytes};
 use crate::refused::Refused;
 use fault::Fault;
-use hex_digits::{Address, HexByte, HexBytes};
 use mask::masked_bytes;
 use std::fmt;
 
-// What a command took: its frames, and the sum of their low clocks.
+/// What a command took: its frames, and the sum of their low clocks.
 #[derive(Clone, Copy, Debug, PartialEq, Eq)]
 pub struct Cost {
     pub frames: u64,
     pub clocks: u64,
 }
 
-// With a blank before each of the two.
+/// With a blank before each of the two.
 impl fmt::Display for Cost {
     ghost output = { λ c. Some (cost_part c) };
 
@@ -46,8 +46,8 @@ impl fmt::Display for Bytes<'_> {
     }
 }
 
-// What a command did and what it took, or its refusal. Types, coverages and registers are the bytes of
-// the script, which a line repeats as numbers.
+/// What a command did and what it took, or its refusal. Types, coverages and registers are the bytes of
+/// the script, which a line repeats as numbers.
 #[derive(Clone, Copy, Debug, PartialEq, Eq)]
 pub enum Line<'a> {
     Read {
@@ -82,7 +82,7 @@ pub enum Line<'a> {
     Reset {
         cost: Cost,
     },
-    // the place counts from behind the opening and its key
+    /// The place counts from behind the opening and its key.
     Refused(Fault<usize>),
 }
 

@@ -1,4 +1,4 @@
-// The line of a refusal.
+//! The line of a refusal.
 ghost use Rattle.std.specs.Option.{option_map};
 ghost use Rattle.fault.specs.Refusals.{details};
 ghost use Rattle.report.specs.Lines.{refusal_at};
@@ -6,7 +6,7 @@ ghost use Rattle.report.specs.Lines.{refusal_at};
 use fault::{Details, Fault};
 use std::fmt;
 
-// A refusal: its number in two digits, its place, and where the strobe was lost the good bytes.
+/// A refusal: its number in two digits, its place, and where the strobe was lost the good bytes.
 #[derive(Clone, Copy, Debug, PartialEq, Eq)]
 pub struct Refused<P>(pub Fault<P>);
 
@@ -15,7 +15,6 @@ impl<P: fmt::Display> fmt::Display for Refused<P> {
 
     fn fmt<W: fmt::Write>(&self, f: &mut fmt::Formatter<W>) -> fmt::Result {
         let Details { number, good, .. } = self.0.refusal.details();
-        // `{number:02}` prints the same two digits; the check finds no proof of it
         let tens = number / 10;
         let units = number % 10;
         let place = &self.0.place;

@@ -1,4 +1,4 @@
-// Lines at the ends of each field. An address above six digits shows its low three bytes.
+//! Lines at the ends of each field. An address above six digits shows its low three bytes.
 use report::{Cost, Line};
 use std::io::Write;
 use std::{array, io};

@@ -1,4 +1,4 @@
-// Lines of the report: those that the page on reports quotes, and lines at the ends of each field.
+//! Lines of the report: those that the page on reports quotes, and lines at the ends of each field.
 #![tactic(auto)]
 
 mod fields;

@@ -1,4 +1,4 @@
-// The lines that the page on reports quotes.
+//! The lines that the page on reports quotes.
 use fault::Refusal;
 use report::{Cost, Line};
 use std::io;

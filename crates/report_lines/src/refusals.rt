@@ -1,4 +1,4 @@
-// Each refusal, at the first place, at the last one of the longest script, and at the largest number.
+//! Each refusal, at the first place, at the last one of the longest script, and at the largest number.
 use fault::Refusal;
 use report::Line;
 use std::io;

@@ -10,7 +10,7 @@ use Rattle.clock.specs.declared.range.TemperatureRange.TheVariants.{Normal, Exte
 use Rattle.frame.specs.Letters.{letter as make_letter}
 use Rattle.frame.specs.declared.make.Make.{Make}
 use Rattle.frame.specs.declared.make.Make.TheVariants as make
-use Rattle.script.specs.Openings.{make_of_letter, range_of_letter, stack_letter, stack_fits, stack_of_letter, opening_length, is_well_formed, opening_refusal, Fields, fields_at_front, bytes_of_stack, bytes_of_fields, FieldsFit, OpeningComesBack}
+use Rattle.script.specs.Openings.{make_of_letter, range_of_letter, stack_letter, stack_fits, stack_at_front, opening_length, is_well_formed, opening_refusal, Fields, fields_at_front, bytes_of_stack, bytes_of_fields, FieldsFit, OpeningComesBack}
 use Rattle.script.specs.declared.opening.Stack.{Stack}
 use Rattle.script.specs.declared.opening.Stack.TheVariants.{Plain, Keyed}
 use Rattle.script.proofs.Numbers.{u16_of_bytes, u32_of_bytes}
@@ -33,12 +33,12 @@ stack_parts : (s : Stack) → bytes_of_stack s ≡ stack_letter s ∷ behind_let
 stack_parts Plain = refl
 stack_parts (Keyed key) = refl
 
-stack_back : (s : Stack) (pages n : ℕ) (rest : List ℕ) → n ≡ pages → IsTrue (stack_fits pages s) → stack_of_letter (stack_letter s) n (behind_letter s ++ rest) ≡ Some s
+stack_back : (s : Stack) (pages n : ℕ) (rest : List ℕ) → n ≡ pages → IsTrue (stack_fits pages s) → stack_at_front n (stack_letter s ∷ behind_letter s ++ rest) ≡ Some s
 stack_back Plain pages n rest e fits = refl
 stack_back (Keyed key) pages n rest e fits =
     let parts = and_parts _ _ fits in
     let same : take 16 (key ++ rest) ≡ key = take_at key rest 16 (eqb-true (length key) 16 parts.1) in
-    (λ i. stack_of_letter (stack_letter (Keyed key)) (e i) (key ++ rest))
+    (λ i. stack_at_front (e i) (stack_letter (Keyed key) ∷ key ++ rest))
     ∙ cond-true (stack_fits pages (Keyed (take 16 (key ++ rest)))) _ _ (ap (λ k. stack_fits pages (Keyed k)) same ∙ fits)
     ∙ ap (λ k. Some (Keyed k)) same
 

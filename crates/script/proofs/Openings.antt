@@ -1,5 +1,5 @@
 -- What an opening is refused by, and what one that is not says. Assumes nothing.
-use Rattle.std.proofs.Common.{◌≡◌, ◌≢◌, ℕ, ◌<◌, ◌≤◌, true, false, cond, List, length, get_or, drop, Some, None, Err, ◌⊎◌, ⊎_elim, sym, refl, ap, ◌∙◌, arith, length-drop}
+use Rattle.std.proofs.Common.{◌≡◌, ◌≢◌, ℕ, ◌<◌, ◌≤◌, true, false, cond, List, length, get_or, drop, Some, None, Err, ◌⊎◌, ⊎_elim, sym, ap, ◌∙◌, arith, length-drop}
 use Rattle.std.specs.Prelude.{is_some, unwrap_or}
 use Rattle.std.proofs.lemmas.Bool.{and_from, and_left, and_right, cond-true, cond-false, le-leb, lt-leb, ne_eqb, cases_lt}
 use Rattle.clock.specs.Letters as range
@@ -14,14 +14,13 @@ use Rattle.frame.specs.Letters as make
 use Rattle.frame.specs.declared.make.Make.{Make}
 use Rattle.frame.specs.declared.make.Make.TheVariants.{A, S}
 use Rattle.script.specs.Numbers.{u16_at, u32_at}
-use Rattle.script.specs.Openings.{make_of_letter, range_of_letter, stack_of_letter, make_at, range_at, stack_at, is_well_formed, opening_refusal, fields_at_front}
+use Rattle.script.specs.Openings.{make_of_letter, range_of_letter, stack_at_front, make_at, range_at, stack_at, is_well_formed, opening_refusal, fields_at_front}
 use Rattle.script.specs.declared.opening.Stack.{Stack}
 use Rattle.script.specs.declared.opening.Stack.TheVariants.{Plain}
-use Rattle.script.proofs.Numbers.{further, byte_at_place}
+use Rattle.script.proofs.Numbers.{byte_at_place}
 
--- the stack is read behind its letter
-stack_there : (bs r : List ℕ) (n : ℕ) → r ≡ drop 14 bs → n ≡ u16_at bs 1 → stack_of_letter (get_or r 0 0) n (drop 1 r) ≡ stack_at bs
-stack_there bs r n at number = λ i. stack_of_letter (byte_at_place bs r 14 at i) (number i) (further bs r (drop 1 r) 14 1 at refl i)
+stack_there : (bs r : List ℕ) (n : ℕ) → r ≡ drop 14 bs → n ≡ u16_at bs 1 → stack_at_front n r ≡ stack_at bs
+stack_there bs r n at number = λ i. stack_at_front (number i) (at i)
 
 malformed : (bs : List ℕ) (e : Refusal) → is_well_formed bs ≡ false → e ≡ BadSetup → opening_refusal bs ≡ Some e
 unfolding opening_refusal
@@ -62,7 +61,7 @@ bad_pages bs n e number out is =
     ⊎_elim (λ none. malformed bs e (and_left _ _ (and_left _ _ (and_left _ _ (and_right _ _ (lt-leb 1 (u16_at bs 1) (omega arith)))))) is)
     (λ many. malformed bs e (and_left _ _ (and_left _ _ (and_right _ _ (lt-leb (u16_at bs 1) 16 (omega (arith, many.1)))))) is) out
 
-pub bad_stack : (bs r : List ℕ) (n : ℕ) (e : Refusal) → r ≡ drop 14 bs → n ≡ u16_at bs 1 → stack_of_letter (get_or r 0 0) n (drop 1 r) ≡ None → e ≡ BadSetup → opening_refusal bs ≡ Some e
+pub bad_stack : (bs r : List ℕ) (n : ℕ) (e : Refusal) → r ≡ drop 14 bs → n ≡ u16_at bs 1 → stack_at_front n r ≡ None → e ≡ BadSetup → opening_refusal bs ≡ Some e
 bad_stack bs r n e at number none is = malformed bs e (and_right _ _ (ap is_some (sym (stack_there bs r n at number) ∙ none))) is
 
 -- an opening of which every value is listed
@@ -80,7 +79,7 @@ known_range : (b : ℕ) (r : TemperatureRange) → range.letter r ≡ b → rang
 known_range b Normal e = ap range_of_letter (sym e)
 known_range b Extended e = ap range_of_letter (sym e)
 
-pub formed : (bs r : List ℕ) (m : Make) (n khz : ℕ) (t : TemperatureRange) (s : Stack) → 15 ≤ length bs → length bs ≤ 32768 → make.letter m ≡ get_or bs 0 0 → n ≡ u16_at bs 1 → n ≢ 0 → n ≤ 16 → khz ≡ u32_at bs 3 → range.letter t ≡ get_or bs 7 0 → r ≡ drop 14 bs → stack_of_letter (get_or r 0 0) n (drop 1 r) ≡ Some s → Formed bs m khz t s
+pub formed : (bs r : List ℕ) (m : Make) (n khz : ℕ) (t : TemperatureRange) (s : Stack) → 15 ≤ length bs → length bs ≤ 32768 → make.letter m ≡ get_or bs 0 0 → n ≡ u16_at bs 1 → n ≢ 0 → n ≤ 16 → khz ≡ u32_at bs 3 → range.letter t ≡ get_or bs 7 0 → r ≡ drop 14 bs → stack_at_front n r ≡ Some s → Formed bs m khz t s
 unfolding opening_refusal
 formed bs r m n khz t s some few make_is number paged small clocked range_is at stacked =
     let make : make_at bs ≡ Some m = known_make _ m make_is in

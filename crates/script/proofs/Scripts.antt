@@ -29,28 +29,28 @@ some_written (coverage k) rest = omega arith
 some_written (register k) rest = omega arith
 some_written reset rest = omega arith
 
--- where a bytes_of_all ends, no command begins
+-- where a script ends, no command begins
 no_command : (a : Instruction) (rest left : List ℕ) (p : ℕ) (e : Option (Fault ℕ)) → InstructionFits a → EndsAt p left e → left ≡ bytes_of_instruction a ++ rest → ⊥
 no_command a rest left p None fits end is = let long : length left ≡ length (bytes_of_instruction a ++ rest) = ap length is in let none : length left ≡ 0 = ap length end in omega (arith, some_written a rest)
 no_command a rest left p (Some f) fits end is = none-some f.refusal (sym (sym end.2 ∙ ap command_refusal is ∙ (read_again a rest fits).taken))
 
 -- the commands of a reading are the first of every other reading that has them in front
-record More (them others : List Instruction) (left last : List ℕ) : Type 0 where
+record More (commands others : List Instruction) (left last : List ℕ) : Type 0 where
   pub tail : List Instruction
   pub fit : AllByRecursion InstructionFits tail
-  pub listed : others ≡ them ++ tail
+  pub listed : others ≡ commands ++ tail
   pub behind : left ≡ bytes_of_all tail ++ last
 
-prefix : (them others : List Instruction) (left last : List ℕ) (p : ℕ) (e : Option (Fault ℕ)) → AllByRecursion InstructionFits them → AllByRecursion InstructionFits others → EndsAt p last e → bytes_of_all them ++ left ≡ bytes_of_all others ++ last → More them others left last
+prefix : (commands others : List Instruction) (left last : List ℕ) (p : ℕ) (e : Option (Fault ℕ)) → AllByRecursion InstructionFits commands → AllByRecursion InstructionFits others → EndsAt p last e → bytes_of_all commands ++ left ≡ bytes_of_all others ++ last → More commands others left last
 prefix [] others left last p e fa fo end is = record { tail = others; fit = fo; listed = refl; behind = is }
-prefix (a ∷ them) [] left last p e fa fo end is = absurd (no_command a (bytes_of_all them ++ left) last p e fa.0 end (sym is ∙ append_assoc (bytes_of_instruction a) (bytes_of_all them) left))
-prefix (a ∷ them) (b ∷ others) left last p e fa fo end is =
-    let both : bytes_of_instruction a ++ (bytes_of_all them ++ left) ≡ bytes_of_instruction b ++ (bytes_of_all others ++ last) = sym (append_assoc (bytes_of_instruction a) (bytes_of_all them) left) ∙ is ∙ append_assoc (bytes_of_instruction b) (bytes_of_all others) last in
-    let one = read_again a (bytes_of_all them ++ left) fa.0 in
+prefix (a ∷ commands) [] left last p e fa fo end is = absurd (no_command a (bytes_of_all commands ++ left) last p e fa.0 end (sym is ∙ append_assoc (bytes_of_instruction a) (bytes_of_all commands) left))
+prefix (a ∷ commands) (b ∷ others) left last p e fa fo end is =
+    let both : bytes_of_instruction a ++ (bytes_of_all commands ++ left) ≡ bytes_of_instruction b ++ (bytes_of_all others ++ last) = sym (append_assoc (bytes_of_instruction a) (bytes_of_all commands) left) ∙ is ∙ append_assoc (bytes_of_instruction b) (bytes_of_all others) last in
+    let one = read_again a (bytes_of_all commands ++ left) fa.0 in
     let two = read_again b (bytes_of_all others ++ last) fo.0 in
     let same : b ≡ a = same_Some b a (sym two.says ∙ sym (ap instruction_at_front both) ∙ one.says) in
-    let rest : bytes_of_all them ++ left ≡ bytes_of_all others ++ last = sym one.left ∙ (λ i. drop (width_of (sym same i)) (both i)) ∙ two.left in
-    let more = prefix them others left last p e fa.1 fo.1 end rest in
+    let rest : bytes_of_all commands ++ left ≡ bytes_of_all others ++ last = sym one.left ∙ (λ i. drop (width_of (sym same i)) (both i)) ∙ two.left in
+    let more = prefix commands others left last p e fa.1 fo.1 end rest in
     record { tail = more.tail; fit = more.fit; listed = λ i. same i ∷ more.listed i; behind = more.behind }
 
 same_ends : (p q : ℕ) (l k : List ℕ) (e f : Option (Fault ℕ)) → p ≡ q → l ≡ k → EndsAt p l e → EndsAt q k f → f ≡ e
@@ -66,22 +66,22 @@ none_more : (tail : List Instruction) (last left : List ℕ) (p : ℕ) (e : Opti
 none_more [] last left p e fit end is = refl
 none_more (a ∷ tail) last left p e fit end is = absurd (no_command a (bytes_of_all tail ++ last) left p e fit.0 end (is ∙ append_assoc (bytes_of_instruction a) (bytes_of_all tail) last))
 
-only : (bs : List ℕ) (cs ds : List (ℕ × Instruction)) (e f : Option (Fault ℕ)) → IsReading bs cs e → IsReading bs ds f → (ds ≡ cs) × (f ≡ e)
-only bs cs ds e f one two =
+same_reading : (bs : List ℕ) (cs ds : List (ℕ × Instruction)) (e f : Option (Fault ℕ)) → IsReading bs cs e → IsReading bs ds f → (ds ≡ cs) × (f ≡ e)
+same_reading bs cs ds e f one two =
     let more = prefix one.begins.instructions two.begins.instructions one.left two.left (length (bytes_of_all two.begins.instructions)) f one.begins.fit two.begins.fit two.ends (sym one.begins.whole ∙ two.begins.whole) in
     let end = none_more more.tail two.left one.left (length (bytes_of_all one.begins.instructions)) e more.fit one.ends more.behind in
     let same : two.begins.instructions ≡ one.begins.instructions = more.listed ∙ ap (λ t. one.begins.instructions ++ t) end ∙ append-nil one.begins.instructions in
     let rest : one.left ≡ two.left = more.behind ∙ ap (λ t. bytes_of_all t ++ two.left) end in
     (two.begins.placed ∙ ap (with_places 0) same ∙ sym one.begins.placed, same_ends (length (bytes_of_all one.begins.instructions)) (length (bytes_of_all two.begins.instructions)) one.left two.left e f (ap (λ a. length (bytes_of_all a)) (sym same)) rest one.ends two.ends)
 
-places_append : (p : ℕ) (them tail : List Instruction) → with_places p (them ++ tail) ≡ with_places p them ++ with_places (p + length (bytes_of_all them)) tail
+places_append : (p : ℕ) (commands tail : List Instruction) → with_places p (commands ++ tail) ≡ with_places p commands ++ with_places (p + length (bytes_of_all commands)) tail
 places_append p [] tail = ap (λ q. with_places q tail) (sym (add-zero p))
-places_append p (a ∷ them) tail =
-    ap (λ l. (p, a) ∷ l) (places_append (p + length (bytes_of_instruction a)) them tail
-    ∙ ap (λ q. with_places (p + length (bytes_of_instruction a)) them ++ with_places q tail) (add_assoc p (length (bytes_of_instruction a)) (length (bytes_of_all them)) ∙ ap (λ q. p + q) (sym (length-append (bytes_of_instruction a) (bytes_of_all them)))))
+places_append p (a ∷ commands) tail =
+    ap (λ l. (p, a) ∷ l) (places_append (p + length (bytes_of_instruction a)) commands tail
+    ∙ ap (λ q. with_places (p + length (bytes_of_instruction a)) commands ++ with_places q tail) (add_assoc p (length (bytes_of_instruction a)) (length (bytes_of_all commands)) ∙ ap (λ q. p + q) (sym (length-append (bytes_of_instruction a) (bytes_of_all commands)))))
 
-places_first : (them tail : List Instruction) → with_places 0 (them ++ tail) ≡ with_places 0 them ++ with_places (length (bytes_of_all them)) tail
-places_first them tail = let at : 0 + length (bytes_of_all them) ≡ length (bytes_of_all them) = omega arith in places_append 0 them tail ∙ ap (λ q. with_places 0 them ++ with_places q tail) at
+places_first : (commands tail : List Instruction) → with_places 0 (commands ++ tail) ≡ with_places 0 commands ++ with_places (length (bytes_of_all commands)) tail
+places_first commands tail = let at : 0 + length (bytes_of_all commands) ≡ length (bytes_of_all commands) = omega arith in places_append 0 commands tail ∙ ap (λ q. with_places 0 commands ++ with_places q tail) at
 
 -- a letter that is unknown stays so, whatever follows
 not_cut_short : (t : Bool) → cond t None (Some CommandCutShort) ≡ Some UnknownCommand → ⊥
@@ -116,8 +116,8 @@ unknown_stays (x ∷ left) more some e =
     (λ i. cond (letter (length (left ++ more)) i) (Some CommandCutShort) (refusal_of (instruction_at_front (x ∷ left ++ more)) (length (x ∷ left ++ more))))
     ∙ ap (λ o. refusal_of o (length (x ∷ left ++ more))) (still_unknown x left more (is_unknown _ _ one))
 
-stays : (bs more : List ℕ) (cs : List (ℕ × Instruction)) (p : ℕ) → IsReading bs cs (Some (fault_at UnknownCommand p)) → IsReading (bs ++ more) cs (Some (fault_at UnknownCommand p))
-stays bs more cs p one = record {
+unknown_end_stays : (bs more : List ℕ) (cs : List (ℕ × Instruction)) (p : ℕ) → IsReading bs cs (Some (fault_at UnknownCommand p)) → IsReading (bs ++ more) cs (Some (fault_at UnknownCommand p))
+unknown_end_stays bs more cs p one = record {
   left = one.left ++ more;
   begins = record { instructions = one.begins.instructions; fit = one.begins.fit; whole = ap (λ l. l ++ more) one.begins.whole ∙ append_assoc (bytes_of_all one.begins.instructions) one.left more; placed = one.begins.placed };
   ends = (one.ends.0, (let some = one.ends.1 in omega (arith, length-append one.left more)), unknown_stays one.left more one.ends.1 one.ends.2);
@@ -125,18 +125,18 @@ stays bs more cs p one = record {
 
 laws : (bs : List ℕ) (cs : List (ℕ × Instruction)) (e : Option (Fault ℕ)) → IsReading bs cs e → ReadingLaws bs cs e
 laws bs cs e one = record {
-  comes_back = λ them fit is.
-      let other : IsReading bs (with_places 0 them) None = record { left = []; begins = record { instructions = them; fit = fit; whole = is ∙ sym (append-nil (bytes_of_all them)); placed = refl }; ends = refl } in
-      let same = only bs cs (with_places 0 them) e None one other in
+  comes_back = λ commands fit is.
+      let other : IsReading bs (with_places 0 commands) None = record { left = []; begins = record { instructions = commands; fit = fit; whole = is ∙ sym (append-nil (bytes_of_all commands)); placed = refl }; ends = refl } in
+      let same = same_reading bs cs (with_places 0 commands) e None one other in
       (sym same.0, sym same.1);
-  one_reading = λ ds f two. only bs cs ds e f one two;
+  one_reading = λ ds f two. same_reading bs cs ds e f one two;
   longest = λ ds left two.
       let front = prefix two.instructions one.begins.instructions left one.left (length (bytes_of_all one.begins.instructions)) e two.fit one.begins.fit one.ends (sym two.whole ∙ one.begins.whole) in
       (with_places (length (bytes_of_all two.instructions)) front.tail, one.begins.placed ∙ ap (with_places 0) front.listed ∙ places_first two.instructions front.tail ∙ ap (λ l. l ++ with_places (length (bytes_of_all two.instructions)) front.tail) (sym two.placed));
   no_further = λ more ds f two.
       let front = prefix one.begins.instructions two.begins.instructions (one.left ++ more) two.left (length (bytes_of_all two.begins.instructions)) f one.begins.fit two.begins.fit two.ends (sym (append_assoc (bytes_of_all one.begins.instructions) one.left more) ∙ ap (λ l. l ++ more) (sym one.begins.whole) ∙ two.begins.whole) in
       (with_places (length (bytes_of_all one.begins.instructions)) front.tail, two.begins.placed ∙ ap (with_places 0) front.listed ∙ places_first one.begins.instructions front.tail ∙ ap (λ l. l ++ with_places (length (bytes_of_all one.begins.instructions)) front.tail) (sym one.begins.placed));
-  stays_unknown = λ p more is. subst (IsReading (bs ++ more) cs) (sym is) (stays bs more cs p (subst (IsReading bs cs) is one));
+  stays_unknown = λ p more is. subst (IsReading (bs ++ more) cs) (sym is) (unknown_end_stays bs more cs p (subst (IsReading bs cs) is one));
 }
 
 -- ---- reading one command after the other
@@ -144,9 +144,9 @@ laws bs cs e one = record {
 bytes_behind : (bs front rest : List ℕ) → Bytes bs → bs ≡ front ++ rest → Bytes rest
 bytes_behind bs front rest b is = λ i. subst (λ x. x < 256) (ap (λ l. get_or l (length front + i) 0) is ∙ get_or-append-add front rest i 0) (b (length front + i))
 
-bytes_of_all-append : (them tail : List Instruction) → bytes_of_all (them ++ tail) ≡ bytes_of_all them ++ bytes_of_all tail
+bytes_of_all-append : (commands tail : List Instruction) → bytes_of_all (commands ++ tail) ≡ bytes_of_all commands ++ bytes_of_all tail
 bytes_of_all-append [] tail = refl
-bytes_of_all-append (a ∷ them) tail = ap (λ l. bytes_of_instruction a ++ l) (bytes_of_all-append them tail) ∙ sym (append_assoc (bytes_of_instruction a) (bytes_of_all them) (bytes_of_all tail))
+bytes_of_all-append (a ∷ commands) tail = ap (λ l. bytes_of_instruction a ++ l) (bytes_of_all-append commands tail) ∙ sym (append_assoc (bytes_of_instruction a) (bytes_of_all commands) (bytes_of_all tail))
 
 one_more : (bs rest after : List ℕ) (ps : List Placed) (p : Placed) → Bytes bs → BeginsWith bs (placed_instructions ps) rest → p.place ≡ length bs - length rest → command_refusal rest ≡ None → instruction_at_front rest ≡ Some (instruction_of p.command) → after ≡ drop (width_of (instruction_of p.command)) rest → BeginsWith bs (placed_instructions (ps ++ p ∷ [])) after
 one_more bs rest after ps p b so at taken says behind =
@@ -226,4 +226,4 @@ script_back bs old new (Ok end) none listed back = λ f is fits fit clock few by
     (same.1, (all.added, all.behind, same.0))
 
 pub no_script : (bs : List ℕ) (e : Refusal) (old new : List Placed) (end : Option (Fault ℕ)) → opening_refusal bs ≡ Some e → OpeningComesBack bs → ScriptComesBack bs old new end
-no_script bs e old new end is back f them fits fit clock few bytes = absurd (none-some e (sym (sym is ∙ (back f (bytes_of_all them) fits few bytes).refusal ∙ clock)))
+no_script bs e old new end is back f commands fits fit clock few bytes = absurd (none-some e (sym (sym is ∙ (back f (bytes_of_all commands) fits few bytes).refusal ∙ clock)))

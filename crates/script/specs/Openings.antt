@@ -55,15 +55,15 @@ abbrev pub stack_fits : ℕ → Stack → Bool
 stack_fits pages Plain = true
 stack_fits pages (Keyed key) = nat_le 2 pages && (length key == 16)
 
--- of a letter, with the bytes behind it
-abbrev pub stack_of_letter : ℕ → ℕ → List ℕ → Option Stack
-stack_of_letter b pages behind =
-    find (λ s. b == stack_letter s && stack_fits pages s) (Plain ∷ Keyed (take 16 behind) ∷ [])
+-- its letter, and behind that its key
+abbrev pub stack_at_front : ℕ → List ℕ → Option Stack
+stack_at_front pages bs =
+    find (λ s. slice_index bs 0 == stack_letter s && stack_fits pages s) (Plain ∷ Keyed (take 16 (drop 1 bs)) ∷ [])
 
 -- ---- how an opening is read
 
 -- place 0: the chip. Places 1 and 2: the pages. Places 3 to 6: the clock in kHz. Place 7: the temperature range.
--- Places 8 to 11: the refresh word. Places 12 and 13: the strobe count. Place 14: the stack, with its key behind it
+-- Places 8 to 11: the refresh word. Places 12 and 13: the strobe count. From place 14 on: the stack
 abbrev pub make_at : List ℕ → Option Make
 make_at bs = make_of_letter (slice_index bs 0)
 
@@ -71,7 +71,7 @@ abbrev pub range_at : List ℕ → Option TemperatureRange
 range_at bs = range_of_letter (slice_index bs 7)
 
 abbrev pub stack_at : List ℕ → Option Stack
-stack_at bs = stack_of_letter (slice_index bs 14) (u16_at bs 1) (drop 15 bs)
+stack_at bs = stack_at_front (u16_at bs 1) (drop 14 bs)
 
 abbrev pub fields_at_front : List ℕ → Fields
 fields_at_front bs = record {

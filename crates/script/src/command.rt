@@ -61,8 +61,10 @@ impl<'a> Command<'a> {
     /// its letter is unknown, by 5 where it passes the end or there is none.
     pub fn parse(script: &'a [u8]) -> Result<(Command<'a>, &'a [u8]), Refusal>
         ensures taken { IsOk result ↔ (command_refusal script.now ≡ None) }
-        ensures command { IfOk result (λ p. instruction_at_front script.now ≡ Some (instruction_of p.0)) }
-        ensures rest { IfOk result (λ p. p.1.now ≡ drop (width_of (instruction_of p.0)) script.now) }
+        ensures command { IfOk result (λ p.
+            instruction_at_front script.now ≡ Some (instruction_of p.0)) }
+        ensures rest { IfOk result (λ p.
+            p.1.now ≡ drop (width_of (instruction_of p.0)) script.now) }
         ensures refused { IfErr result (λ e. command_refusal script.now ≡ Some e) }
     {
         let [letter, operands @ ..] = script else {

@@ -22,9 +22,11 @@ pub fn list<'a, A: Allocator>(
     script: &'a [u8],
     commands: &mut Vec<Placed<'a>, A>,
 ) -> Result<Option<Fault<usize>>, AllocError>
-    ensures ok { IfOk result (λ end. ListsAll script.now commands.old.items commands.new.items end) }
+    ensures ok { IfOk result (λ end.
+        ListsAll script.now commands.old.items commands.new.items end) }
     ensures err { OnErr result (ListsFirst script.now commands.old.items commands.new.items) }
-    ensures room { vec_len commands.old + length script.now ≤ vec_capacity commands.old → IsOk result }
+    ensures room { vec_len commands.old + length script.now ≤ vec_capacity commands.old
+        → IsOk result }
     ensures full { OnErr result (vec_capacity commands.old ≤ vec_len commands.new) }
 {
     let mut rest = script;
@@ -57,7 +59,8 @@ pub fn read<'a, A: Allocator>(
         (ListsFirst (commands_of script.now) commands.old.items commands.new.items)) }
     ensures comes_back { IfOk result (λ end.
         ScriptComesBack script.now commands.old.items commands.new.items end) }
-    ensures room { vec_len commands.old + length script.now ≤ vec_capacity commands.old → IsOk result }
+    ensures room { vec_len commands.old + length script.now ≤ vec_capacity commands.old
+        → IsOk result }
     ensures full { OnErr result (vec_capacity commands.old ≤ vec_len commands.new) }
 {
     match Opening::parse(script) {

@@ -17,15 +17,13 @@ pub enum Stack {
 }
 
 impl Stack {
-    ghost use Rattle.std.specs.Prelude.{◌≡◌, ◌≤◌, length, drop, slice_index, Some, None, IfOk, OnOk, IfErr, OnErr};
-    ghost use Rattle.script.specs.Openings.{stack_of_letter};
+    ghost use Rattle.std.specs.Prelude.{◌≡◌, ◌≤◌, length, Some, None, IfOk, OnOk, IfErr, OnErr};
+    ghost use Rattle.script.specs.Openings.{stack_at_front};
 
     // The stack of a chip with so many pages.
     fn read(reader: &mut Reader<'_>, pages: u16) -> Result<Stack, Refusal>
-        ensures ok { IfOk result (λ s.
-            stack_of_letter (slice_index reader.old.rest.now 0) pages (drop 1 reader.old.rest.now) ≡ Some s) }
-        ensures names_nothing { OnErr result (
-            stack_of_letter (slice_index reader.old.rest.now 0) pages (drop 1 reader.old.rest.now) ≡ None) }
+        ensures ok { IfOk result (λ s. stack_at_front pages reader.old.rest.now ≡ Some s) }
+        ensures names_nothing { OnErr result (stack_at_front pages reader.old.rest.now ≡ None) }
         ensures there { OnOk result (1 ≤ length reader.old.rest.now) }
         ensures refused { IfErr result (λ e. e ≡ Refusal.BadSetup) }
     {

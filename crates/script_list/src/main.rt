@@ -1,16 +1,13 @@
-// Reads a script from standard input and prints its commands in words, each behind its place, and
-// the refusal that ends it.
+//! Reads a script from standard input and prints its commands in words, each behind its place, and
+//! the refusal that ends it.
 #![tactic(auto)]
 
-use listing::read;
-use script::LONGEST;
+use report::Listing;
+use script::{LONGEST, read};
 use std::alloc::Global;
 use std::io;
 use std::io::{BufWriter, Read, Write};
-use words::Listing;
 
-// The commands in words. (`script_table` prints them so too, behind another line: four lines that hold
-// a list and what borrows it, and cannot be handed on.)
 fn print<W: Write>(heap: Global, out: &mut W, script: &[u8]) -> io::Result<()> {
     // a script has at most as many commands as bytes
     let mut commands = Vec::with_capacity(heap, script.len())?;
@@ -20,8 +17,7 @@ fn print<W: Write>(heap: Global, out: &mut W, script: &[u8]) -> io::Result<()> {
 }
 
 fn main(rt: HostRuntime) -> io::Result<()> {
-    // one byte more than a script may have, so that one that is too long is seen to be (two lines, as in
-    // `psram_run`)
+    // one byte more than a script may have, so that one that is too long is seen to be
     let mut input = Vec::new(rt.alloc());
     rt.stdin().take(LONGEST as u64 + 1).read_to_end(&mut input)?;
     let mut out = BufWriter::new(rt.alloc(), rt.stdout())?;

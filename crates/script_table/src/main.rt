@@ -1,5 +1,5 @@
-// Scripts at the edges of their format, and what is read of each: one script cut off behind every
-// byte, every letter, the shortest and the longest lengths, and the longest input.
+//! Scripts at the edges of their format, and what is read of each: one script cut off behind every
+//! byte, every letter, the shortest and the longest lengths, and the longest input.
 #![tactic(auto)]
 
 mod show;

@@ -1,14 +1,12 @@
-// What is read of one script.
+//! What is read of one script.
 use fault::Fault;
-use listing::{Placed, list, read};
-use report::first_line;
-use script::Command;
+use report::{Listing, first_line};
+use script::{Command, Placed, list, read};
 use std::alloc::Global;
 use std::io;
 use std::io::Write;
-use words::Listing;
 
-// The first line of the report, and the commands in words (as `script_list` prints them).
+/// The first line of the report, and the commands in words.
 pub fn listing<W: Write>(heap: Global, out: &mut W, script: &[u8]) -> io::Result<()> {
     let count = script.len();
     writeln!(out, "of {count}: {}", first_line(script))?;
@@ -32,7 +30,7 @@ fn parts(command: Command<'_>) -> (u16, usize, usize) {
     }
 }
 
-// How many commands there are, the parts and the place of the last one, and how they end.
+/// How many commands there are, the parts and the place of the last one, and how they end.
 pub fn counts<W: Write>(heap: Global, out: &mut W, script: &[u8]) -> io::Result<()> {
     let bytes = script.len();
     let mut commands = Vec::with_capacity(heap, bytes)?;
