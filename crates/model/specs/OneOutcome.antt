@@ -56,12 +56,13 @@ module _ {X : Type 0} (show : X → Contents) where
     itself = λ c. refl;
     means = λ c d s. ap meaning s;
     of_frame = λ c d p q gap f old older new newer r s same _ _ one other.
-        let o = refused (show d).config (show d).state gap f in
+        let n = show d in
+        let o = refused n.config n.state gap f in
         record {
-          after = one.after ∙ ap (λ m. (step m gap f old).after) same ∙ same_after o (show d) f old older ∙ sym other.after;
-          answer = one.answer ∙ ap (λ m. (step m gap f old).answer) same ∙ same_answer o (show d) f old older
+          after = one.after ∙ ap (λ m. (step m gap f old).after) same ∙ same_after o n f old older ∙ sym other.after;
+          answer = one.answer ∙ ap (λ m. (step m gap f old).answer) same ∙ same_answer o n f old older
               ∙ sym other.answer;
-          came = bytes_by one ∙ ap (λ m. bytes_of f (step m gap f old)) same ∙ same_bytes o (show d) f old older
+          came = bytes_by one ∙ ap (λ m. bytes_of f (step m gap f old)) same ∙ same_bytes o n f old older
               ∙ sym (bytes_by other);
           buffer = λ b. one.buffer ∙ (λ i. (step (same i) gap f (b i)).buffer) ∙ sym other.buffer;
         };

@@ -25,11 +25,11 @@ pub fn model<P: Part>(heap: Global, opening: &Opening) -> anyhow::Result<Model<P
     let store = vec![in heap; 0; size]?;
     let Opening {
         clock,
-        refresh,
-        strobes,
+        refresh_word,
+        strobe_count,
         ..
     } = *opening;
-    Model::new(store, clock.khz, clock.range, refresh, strobes).map_err(|back| refused(
+    Model::new(store, clock.khz, clock.range, refresh_word, strobe_count).map_err(|back| refused(
         back.fault.refusal,
     ))
 }
