@@ -3,7 +3,7 @@ use Rattle.std.specs.Prelude.{ℕ, ◌-◌, ◌*◌, ◌%◌, max, Bool, true, f
 use Rattle.clock.specs.Times.{clocks}
 use Rattle.fault.specs.declared.Refusal.{Refusal}
 use Rattle.fault.specs.declared.Refusal.TheVariants.{WrongPhase, TooSoon, BadStart, BadCount, TooLong, BadRegister}
-use Rattle.mask.specs.Masks as mask
+use Rattle.mask.specs.Masks.{size as mask_size}
 use Rattle.register.specs.Registers.{readable, accepts}
 use Rattle.chip.specs.LowClocks.{low_for}
 use Rattle.chip.specs.Meaning.{size, most_low, read_latency}
@@ -42,13 +42,13 @@ is_bad_start k a = a % 2 == 1 || nat_le (size k) a
 
 abbrev pub bad_start : Config → Sent → Bool
 bad_start k (read b a n) = is_bad_start k a
-bad_start k (write b a d m) = is_bad_start k a
+bad_start k (write b a d mask) = is_bad_start k a
 bad_start k _ = false
 
 -- no bytes, or a write of an odd number of bytes or unlike its mask
 abbrev pub bad_count : Sent → Bool
 bad_count (read b a n) = n == 0
-bad_count (write b a d m) = length d == 0 || (length d % 2 == 1 || not (length m == mask.size (length d)))
+bad_count (write b a d mask) = length d == 0 || (length d % 2 == 1 || not (length mask == mask_size (length d)))
 bad_count _ = false
 
 -- the low clocks exceed tCEM, a memory read counted with 2 LC in either latency type

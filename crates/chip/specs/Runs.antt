@@ -65,8 +65,8 @@ pub record IsSafe (m : Meaning) (a : ℕ) : Type 0 where
 
 -- a byte of the frame that is not masked lies at a, in the burst that is on the wire
 abbrev pub Reaches : Meaning → Sent → ℕ → Type 0
-Reaches m (write b s d k) a =
-    (i : ℕ) × (i < length d) × (masked k i ≡ false) × (address m.config m.state b s i ≡ a)
+Reaches m (write b s d mask) a =
+    (i : ℕ) × (i < length d) × (masked mask i ≡ false) × (address m.config m.state b s i ≡ a)
 Reaches m _ a = ⊥
 
 -- the event is a write of a that is taken

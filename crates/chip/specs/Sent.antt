@@ -16,7 +16,7 @@ pub data Sent : Type 0 where
 
 abbrev pub sent : Frame → ℕ → Sent
 sent (frame.Read b a) n = read b a n
-sent (frame.Write b a d k) n = write b a d.now k.now
+sent (frame.Write b a d mask) n = write b a d.now mask.now
 sent (frame.RegisterRead r) n = register_read r
 sent (frame.RegisterWrite r v) n = register_write r v
 sent frame.GlobalReset n = global_reset
@@ -24,7 +24,7 @@ sent frame.GlobalReset n = global_reset
 -- the place of a fault: the start of a memory frame, else 0
 abbrev pub place : Sent → ℕ
 place (read b a n) = a
-place (write b a d k) = a
+place (write b a d mask) = a
 place _ = 0
 
 -- what a frame is answered with

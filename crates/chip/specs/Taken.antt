@@ -88,13 +88,14 @@ address k s b a i = burst_address k.make (on_wire b s.mr8) a i
 
 -- what an address holds after the first n bytes of a write: the last unmasked byte that came to it, else what it held
 abbrev pub written : (ℕ → ℕ) → List ℕ → List ℕ → ℕ → ℕ → ℕ → ℕ
-written to d k zero a old = old
-written to d k (suc i) a old = if to i == a && not (masked k i) then slice_index d i else written to d k i a old
+written to d mask zero a old = old
+written to d mask (suc i) a old =
+    if to i == a && not (masked mask i) then slice_index d i else written to d mask i a old
 
 -- what an address holds after a frame over which it is retained
 abbrev pub stored : Config → State → Sent → ℕ → ℕ → ℕ
-stored c s (write b a d k) x old = written (address c s b a) d k (length d) x old
-stored c s _ x old = old
+stored k s (write b a d mask) x old = written (address k s b a) d mask (length d) x old
+stored k s _ x old = old
 
 -- a byte is retained over the frame: refreshed before and after it, with the strobe there; none is over wake
 abbrev pub is_retained : Meaning → Meaning → Sent → ℕ → Bool

@@ -18,7 +18,7 @@ is_linear _ = false
 -- the command: 20h and A0h of a linear frame, 00h and 80h of every other memory frame, whatever block it names
 abbrev pub command_of_frame : Sent → Command
 command_of_frame (read b a n) = if is_linear b then LinearRead else Read
-command_of_frame (write b a d m) = if is_linear b then LinearWrite else Write
+command_of_frame (write b a d mask) = if is_linear b then LinearWrite else Write
 command_of_frame (register_read r) = RegisterRead
 command_of_frame (register_write r v) = RegisterWrite
 command_of_frame global_reset = GlobalReset
@@ -26,7 +26,7 @@ command_of_frame global_reset = GlobalReset
 -- what A3 to A0 carry: the start, the register's number, or nothing
 abbrev pub address_of_frame : Sent → ℕ
 address_of_frame (read b a n) = a
-address_of_frame (write b a d m) = a
+address_of_frame (write b a d mask) = a
 address_of_frame (register_read r) = r
 address_of_frame (register_write r v) = r
 address_of_frame global_reset = 0
@@ -43,7 +43,7 @@ pub record FollowingBytes : Type 0 where
 
 abbrev pub following_bytes : Sent → FollowingBytes
 following_bytes (read b a n) = record { count = n; bytes = []; mask = [] }
-following_bytes (write b a d m) = record { count = 0; bytes = d; mask = m }
+following_bytes (write b a d mask) = record { count = 0; bytes = d; mask = mask }
 following_bytes (register_read r) = record { count = 1; bytes = []; mask = [] }
 following_bytes (register_write r v) = record { count = 0; bytes = v ∷ []; mask = [] }
 following_bytes global_reset = record { count = 0; bytes = []; mask = [] }
@@ -69,8 +69,8 @@ pub record SameOnTheWire : Type 0 where
   -- of two bursts that are both linear or both not
   pub bursts : (b c : Burst) → is_linear b ≡ is_linear c → (mr8 : ℕ) → on_wire b mr8 ≡ on_wire c mr8
   pub reads : (b c : Burst) (a n : ℕ) → is_linear b ≡ is_linear c → DoesTheSame (read b a n) (read c a n)
-  pub writes : (b c : Burst) (a : ℕ) (d m : List ℕ) → is_linear b ≡ is_linear c → DoesTheSame (write b a d m)
-      (write c a d m)
+  pub writes : (b c : Burst) (a : ℕ) (d mask : List ℕ) → is_linear b ≡ is_linear c → DoesTheSame (write b a d mask)
+      (write c a d mask)
   -- of two frames with the same opening bytes, and the same behind them
   pub frames : (f g : Sent) (bytes : List ℕ) →
       frame_opening_bytes f ≡ Some bytes → frame_opening_bytes g ≡ Some bytes

@@ -9,14 +9,14 @@ use Rattle.model.specs.Contents.{Contents}
 
 -- a store after the first n bytes of d came each to its place, but for those that are masked
 abbrev pub written_store : (ℕ → ℕ) → List ℕ → List ℕ → ℕ → List ℕ → List ℕ
-written_store place d k zero store = store
-written_store place d k (suc i) store =
-    if masked k i then written_store place d k i store
-    else slice_set (written_store place d k i store) (place i) (slice_index d i)
+written_store place d mask zero store = store
+written_store place d mask (suc i) store =
+    if masked mask i then written_store place d mask i store
+    else slice_set (written_store place d mask i store) (place i) (slice_index d i)
 
 -- the store after a frame that is taken: a write alone changes it
 abbrev pub store_after : Contents → Sent → List ℕ
-store_after m (write b a d k) = written_store (address m.config m.state b a) d k (length d) m.store
+store_after m (write b a d mask) = written_store (address m.config m.state b a) d mask (length d) m.store
 store_after m _ = m.store
 
 -- the first n bytes of a burst, in its order

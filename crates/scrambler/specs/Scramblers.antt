@@ -27,8 +27,8 @@ scratch_size = 1052
 
 -- a frame as it goes down: the data of a write are combined
 abbrev pub combined_frame : List ℕ → Meaning → Sent → Sent
-combined_frame key m (write b a d k) =
-    write b a (if nat_le (length d) scratch_size then combined key (address m.config m.state b a) d else d) k
+combined_frame key m (write b a d mask) =
+    write b a (if nat_le (length d) scratch_size then combined key (address m.config m.state b a) d else d) mask
 combined_frame key m f = f
 
 -- the buffer as it comes back, from a chip that now means n: the bytes of an answered read are combined

@@ -14,10 +14,10 @@ abbrev pub stack : (hidden : ℕ) (key : List ℕ) (m : Meaning) → hidden < m.
 stack hidden key m some = scrambler key (window hidden m some)
 
 -- byte i of a write is the last unmasked byte that goes to its address
-pub record IsLastAt (to : ℕ → ℕ) (d k : List ℕ) (i : ℕ) : Type 0 where
+pub record IsLastAt (to : ℕ → ℕ) (d mask : List ℕ) (i : ℕ) : Type 0 where
   pub inside : i < length d
-  pub unmasked : masked k i ≡ false
-  pub last : (j : ℕ) → i < j → j < length d → masked k j ≡ false → to j ≢ to i
+  pub unmasked : masked mask i ≡ false
+  pub last : (j : ℕ) → i < j → j < length d → masked mask j ≡ false → to j ≢ to i
 
 -- after any run that spares x, a read that is answered, over which x is retained, gives v at each place of its burst
 -- that comes to x
@@ -38,10 +38,10 @@ pub record Holds (hidden : ℕ) (key : List ℕ) (n : Meaning) (some : hidden < 
 abbrev pub WrittenComesBack : Type 0
 WrittenComesBack =
     (hidden : ℕ) (key : List ℕ) (m n : Meaning) (p : hidden < m.config.pages) (q : hidden < n.config.pages)
-    (gap : ℕ) (b : Burst) (a i x : ℕ) (d k old new : List ℕ)
+    (gap : ℕ) (b : Burst) (a i x : ℕ) (d mask old new : List ℕ)
     → Lawful m
-    → Sends (stack hidden key m p) gap (write b a d k) old (Ok Done) (stack hidden key n q) new
-    → IsLastAt (address (stack hidden key m p).config m.state b a) d k i
+    → Sends (stack hidden key m p) gap (write b a d mask) old (Ok Done) (stack hidden key n q) new
+    → IsLastAt (address (stack hidden key m p).config m.state b a) d mask i
     → address (stack hidden key m p).config m.state b a i ≡ x
-    → is_retained (stack hidden key m p) (stack hidden key n q) (write b a d k) x ≡ true
+    → is_retained (stack hidden key m p) (stack hidden key n q) (write b a d mask) x ≡ true
     → Holds hidden key n q x (slice_index d i)

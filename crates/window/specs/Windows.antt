@@ -41,7 +41,7 @@ moved by a = min (a + by) (2 ^ 32 - 1)
 -- a frame as it goes down: the start of a memory frame is moved
 abbrev pub lowered : ℕ → Sent → Sent
 lowered by (read b a n) = read b (moved by a) n
-lowered by (write b a d k) = write b (moved by a) d k
+lowered by (write b a d mask) = write b (moved by a) d mask
 lowered by f = f
 
 -- a fault names the place as it was called on the window
