@@ -26,7 +26,7 @@ instruction_words reset = codes " reset"
 
 -- behind its place: @10 read at 000003, length 3
 abbrev pub words : ℕ × Instruction → List ℕ
-words (place, a) = codes "@" ++ (decimal place ++ instruction_words a)
+words (place, i) = codes "@" ++ (decimal place ++ instruction_words i)
 
 -- each line ends with a line feed
 abbrev pub placed_line : Placed → List ℕ

@@ -11,12 +11,12 @@ use Rattle.script.specs.declared.listing.Placed.{Placed}
 
 -- a list of commands as bytes
 abbrev pub bytes_of_all : List Instruction → List ℕ
-bytes_of_all is = flat_map bytes_of_instruction is
+bytes_of_all commands = flat_map bytes_of_instruction commands
 
 -- each with its place, that of its letter, the first one's being p
 abbrev pub with_places : ℕ → List Instruction → List (ℕ × Instruction)
 with_places p [] = []
-with_places p (i ∷ is) = (p, i) ∷ with_places (p + length (bytes_of_instruction i)) is
+with_places p (i ∷ rest) = (p, i) ∷ with_places (p + length (bytes_of_instruction i)) rest
 
 -- what was read
 abbrev pub placed_instruction : Placed → ℕ × Instruction
@@ -49,8 +49,8 @@ pub record IsReading (bs : List ℕ) (cs : List (ℕ × Instruction)) (end : Opt
 -- a list of commands that is written as bytes comes back with its places
 abbrev pub CommandsComeBack : List ℕ → List (ℕ × Instruction) → Option (Fault ℕ) → Type 0
 CommandsComeBack bs cs end =
-    (is : List Instruction) → AllByRecursion InstructionFits is → bs ≡ bytes_of_all is
-    → (cs ≡ with_places 0 is) × (end ≡ None)
+    (commands : List Instruction) → AllByRecursion InstructionFits commands → bs ≡ bytes_of_all commands
+    → (cs ≡ with_places 0 commands) × (end ≡ None)
 
 -- bytes have one reading
 abbrev pub HasOneReading : List ℕ → List (ℕ × Instruction) → Option (Fault ℕ) → Type 0
@@ -99,11 +99,12 @@ pub record ListsFirst (bs : List ℕ) (old new : List Placed) : Type 0 where
 
 -- these commands, and no others, are put behind those that were listed already
 abbrev pub ListsJust : List Instruction → List Placed → List Placed → Type 0
-ListsJust is old new = (added : List Placed) × (new ≡ old ++ added) × (placed_instructions added ≡ with_places 0 is)
+ListsJust commands old new =
+    (added : List Placed) × (new ≡ old ++ added) × (placed_instructions added ≡ with_places 0 commands)
 
 -- an opening and commands that are written one behind the other come back: where memory was there, up to the end
 abbrev pub ScriptComesBack : List ℕ → List Placed → List Placed → Option (Fault ℕ) → Type 0
 ScriptComesBack bs old new end =
-    (f : Fields) (is : List Instruction) → FieldsFit f → AllByRecursion InstructionFits is
-    → clock.refused f.khz f.range ≡ None → length bs ≤ 32768 → bs ≡ bytes_of_fields f ++ bytes_of_all is
-    → (end ≡ None) × ListsJust is old new
+    (f : Fields) (commands : List Instruction) → FieldsFit f → AllByRecursion InstructionFits commands
+    → clock.refused f.khz f.range ≡ None → length bs ≤ 32768 → bs ≡ bytes_of_fields f ++ bytes_of_all commands
+    → (end ≡ None) × ListsJust commands old new

@@ -36,6 +36,7 @@ impl Stack {
     }
 }
 
+/// What the opening of a script says.
 #[derive(Clone, Copy, Debug, PartialEq, Eq)]
 pub struct Opening {
     pub make: Make,
