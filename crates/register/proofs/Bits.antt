@@ -4,7 +4,8 @@ use Rattle.std.proofs.lemmas.Nat.{and_mask, or_shifted}
 use Rattle.std.proofs.lemmas.Bool.Decides.{nat_tests}
 use Rattle.clock.specs.declared.range.Latency.{Latency}
 use Rattle.clock.specs.declared.range.Latency.TheVariants.{Three, Four, Five}
-use Rattle.register.specs.Registers.{bits, read_latency, write_latency, coverage_of, mr0_value, mr4_value}
+use Rattle.register.specs.Codes.{read_latency, write_latency, coverage_of}
+use Rattle.register.specs.Registers.{bits, mr0_value, mr4_value}
 use Rattle.register.specs.Written.{WritesMr0, WritesMr4}
 use Rattle.register.specs.declared.fields.Coverage.{Coverage}
 use Rattle.register.specs.declared.fields.Coverage.TheVariants.{All}

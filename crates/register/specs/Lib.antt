@@ -1,3 +1,4 @@
+pub mod Codes
 pub mod Registers
 pub mod Table
 pub mod Written

@@ -1,7 +1,8 @@
 //! The fields of the mode registers: from the values of the registers to what they mean, and back.
 ghost use Rattle.std.specs.Prelude.{◌≡◌, ◌<◌, ◌≤◌};
 ghost use Rattle.register.specs.Registers.{bits, mr0, mr4, mr8, on_wire, refreshed_span, bottom, top};
-ghost use Rattle.register.specs.Registers.{read_code, write_code, mr0_value, mr4_value, mr8_value};
+ghost use Rattle.register.specs.Codes.{read_code, write_code};
+ghost use Rattle.register.specs.Registers.{mr0_value, mr4_value, mr8_value};
 ghost use Rattle.register.specs.Written.{WritesMr0, WritesMr4, WritesMr8};
 
 use clock::{Clock, Latency};
@@ -93,7 +94,7 @@ fn write_code(wl: Latency) -> u8
 impl From<u8> for Mr0 {
     ghost from_gives = { λ v r. r ≡ mr0 v };
 
-    #[tactic(auto, unfolding(crate::specs::Registers::read_latency))]
+    #[tactic(auto, unfolding(crate::specs::Codes::read_latency))]
     fn from(value: u8) -> Mr0 {
         Mr0 {
             latency_type: match bits(value, 5, 5) {
@@ -127,7 +128,7 @@ impl Mr0 {
 impl From<u8> for Mr4 {
     ghost from_gives = { λ v r. r ≡ mr4 v };
 
-    #[tactic(auto, unfolding(crate::specs::Registers::write_latency, crate::specs::Registers::coverage_of))]
+    #[tactic(auto, unfolding(crate::specs::Codes::write_latency, crate::specs::Codes::coverage_of))]
     fn from(value: u8) -> Mr4 {
         Mr4 {
             wl: match bits(value, 7, 5) {
@@ -204,7 +205,7 @@ impl Coverage {
 impl From<u8> for Mr8 {
     ghost from_gives = { λ v r. r.burst ≡ mr8 v };
 
-    #[tactic(auto, unfolding(crate::specs::Registers::block_of))]
+    #[tactic(auto, unfolding(crate::specs::Codes::block_of))]
     fn from(value: u8) -> Mr8 {
         let block = match bits(value, 1, 0) {
             0 => Block::Bytes16,
@@ -223,7 +224,7 @@ impl From<u8> for Mr8 {
 
 impl CacheLine {
     /// The value of MR8 for the wrapped read of a line.
-    #[tactic(auto, unfolding(crate::specs::Registers::block_of))]
+    #[tactic(auto, unfolding(crate::specs::Codes::block_of))]
     pub fn mr8(self) -> u8
         ensures value { result ≡ mr8_value self }
         ensures writes { WritesMr8 self result }
