@@ -64,7 +64,7 @@ returns-in_err-clock-clause-refused c =
     (c.in_ok-make.ensures.ok ∙ byte_at_place bs _ 0 c.new-reader.ensures) (c.in_ok-pages.ensures.ok ∙ u16_at_place bs _ 1 at.pages)
     c.if-pages-eq0.false c.if-pages-gt16.false (c.in_ok-khz.ensures.ok ∙ u32_at_place bs _ 3 at.khz)
     (c.in_ok-range.ensures.ok ∙ byte_at_place bs _ 7 at.range) at.stack c.in_ok-stack.ensures.ok in
-    rw (p.1, p.2) (is.refusal ∙ c.in_err-clock.ensures)
+    rw (p.1, p.2) (is.refusal ∙ c.in_err-clock.ensures.refused)
 
 pub returns : goal.returns
 returns c =
@@ -76,12 +76,12 @@ returns c =
     c.if-pages-eq0.false c.if-pages-gt16.false (c.in_ok-khz.ensures.ok ∙ u32_at_place bs _ 3 at.khz)
     (c.in_ok-range.ensures.ok ∙ byte_at_place bs _ 7 at.range) at.stack c.in_ok-stack.ensures.ok in
     record {
-      taken = is.refusal ∙ c.in_ok-clock.ensures.1;
+      taken = is.refusal ∙ (c.in_ok-clock.ensures.taken.0 refl);
       ok = λ i. record {
         make = is.make i;
         pages = (c.in_ok-pages.ensures.ok ∙ u16_at_place bs _ 1 at.pages) i;
-        khz = (c.in_ok-clock.ensures.0.khz_is ∙ c.in_ok-khz.ensures.ok ∙ u32_at_place bs _ 3 at.khz) i;
-        range = (c.in_ok-clock.ensures.0.range_is ∙ is.range) i;
+        khz = (c.in_ok-clock.ensures.ok.khz_is ∙ c.in_ok-khz.ensures.ok ∙ u32_at_place bs _ 3 at.khz) i;
+        range = (c.in_ok-clock.ensures.ok.range_is ∙ is.range) i;
         refresh_word = (c.in_ok-refresh_word.ensures.ok ∙ u32_at_place bs _ 8 at.refresh) i;
         strobe_count = (c.in_ok-strobe_count.ensures.ok ∙ u16_at_place bs _ 12 at.strobes) i;
         stack = is.stack i;
