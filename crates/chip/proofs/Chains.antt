@@ -6,8 +6,8 @@ use Rattle.std.proofs.lemmas.List.Elements.{All-cons, All-nil}
 use Rattle.std.proofs.lemmas.List.Sums.{sum_by-cons}
 use Rattle.frame.specs.Low.{saturated}
 use Rattle.clock.specs.Times.{clocks}
-use Rattle.chip.specs.Chains.{Exchange, event_of, Exchanges, Chain, done, next, IsRun, KeepsTcem, CountsRise, IsChain}
-use Rattle.chip.specs.Exchanges.{soonest_exchange, Exchanged, Goes}
+use Rattle.chip.specs.Chains.{Exchange, event_of, IsExchange, Chain, done, next, IsRun, KeepsTcem, CountsRise, IsChain}
+use Rattle.chip.specs.Exchanges.{least_gap_of, exchange_of, IsRunStep, LengthensChains}
 use Rattle.chip.specs.Free.{FreeByFrame}
 use Rattle.chip.specs.LowClocks.{low_for}
 use Rattle.chip.specs.Meaning.{Meaning, read_latency, most_low}
@@ -70,7 +70,7 @@ stays_awake m n gap f old new r sends none awake =
 
 -- ---- one exchange
 
-module _ {X : Type 0} (meaning : X → Meaning) (gives : X → Event → X → Type 0) (c : X) (x : Exchange) (d : X) (one : Exchanges meaning gives c x d) where
+module _ {X : Type 0} (meaning : X → Meaning) (gives : X → Event → X → Type 0) (c : X) (x : Exchange) (d : X) (one : IsExchange meaning gives c x d) where
   low_is : x.low ≡ clocks_in (meaning c) (event_of x) (meaning d)
   low_is = one.low ∙ ap (λ o. unless_refused o (meaning d).state.latest_low) (sym one.taken)
 
@@ -84,14 +84,14 @@ module _ {X : Type 0} (meaning : X → Meaning) (gives : X → Event → X → T
   -- the counts rise by one frame and its low clocks
   one_rises : (meaning c).state.phase ≡ Awake → CountsFit (meaning c) → RisesBy (meaning c) 1 x.low (meaning d)
   one_rises awake fit =
-      let rises = risen (meaning c) (meaning d) (event_of x) one.does fit (never awake) in
+      let rises = risen (meaning c) (meaning d) (event_of x) one.happens.does fit (never awake) in
       subst (λ k. RisesBy (meaning c) k x.low (meaning d)) (sym one_frame)
       (subst (λ k. RisesBy (meaning c) (frames_in (meaning c) (event_of x) (meaning d)) k (meaning d)) (sym low_is) rises)
 
   one_short : x.low ≤ most_low (meaning c).config
   one_short =
       subst (λ k. k ≤ most_low (meaning c).config) (sym one.low)
-      (short (meaning c) (meaning d) x.gap x.frame x.before x.after x.answer one.does one.taken)
+      (short (meaning c) (meaning d) x.gap x.frame x.before x.after x.answer one.happens.does one.taken)
 
 -- ---- a chain
 
@@ -103,20 +103,20 @@ module _ {X : Type 0} (meaning : X → Meaning) (gives : X → Event → X → T
       record {
         steps = record { event = event_of x; after = meaning e } ∷ more.steps;
         events = ap (λ es. event_of x ∷ es) more.events;
-        runs = onward one.does more.runs;
+        runs = onward one.happens.does more.runs;
       }
 
   keeps_tcem : (c d : X) (xs : List Exchange) → Chain meaning gives c xs d → KeepsTcem (meaning c) xs
   keeps_tcem c d [] done = All-nil _
   keeps_tcem c d (x ∷ xs) (next {d = e} one rest) =
       All-cons (λ y. y.low ≤ most_low (meaning c).config) x xs (one_short meaning gives c x e one)
-      (subst (λ k. All (λ y. y.low ≤ most_low k) xs) (config_of (meaning c) (meaning e) (event_of x) one.does).config (keeps_tcem e d xs rest))
+      (subst (λ k. All (λ y. y.low ≤ most_low k) xs) (config_of (meaning c) (meaning e) (event_of x) one.happens.does).config (keeps_tcem e d xs rest))
 
   counts_rise : (c d : X) (xs : List Exchange) → Chain meaning gives c xs d → CountsRise (meaning c) xs (meaning d)
   counts_rise c d [] done awake fit = record { frames = omega (arith, fit.frames); clocks = omega (arith, fit.clocks) }
   counts_rise c d (x ∷ xs) (next {d = e} one rest) awake fit =
       let first = one_rises meaning gives c x e one awake fit in
-      let still_awake = stays_awake (meaning c) (meaning e) x.gap x.frame x.before x.after x.answer one.does one.taken awake in
+      let still_awake = stays_awake (meaning c) (meaning e) x.gap x.frame x.before x.after x.answer one.happens.does one.taken awake in
       let more = counts_rise e d xs rest still_awake (still_fit (meaning c) (meaning e) 1 x.low first) in
       let sums = risen_on (meaning c) (meaning e) (meaning d) 1 x.low (length xs) (sum_by (λ y. y.low) xs) first more in
       let low = sum_by-cons (λ (y : Exchange). y.low) x xs in
@@ -126,31 +126,36 @@ module _ {X : Type 0} (meaning : X → Meaning) (gives : X → Event → X → T
   every_chain c d xs chain = record { run = is_run c d xs chain; short = keeps_tcem c d xs chain; counted = counts_rise c d xs chain }
 
   -- a chain, and one more exchange
-  pub lengthened : (b c d : X) (xs : List Exchange) (x : Exchange) → Chain meaning gives b xs c → Exchanges meaning gives c x d → Chain meaning gives b (xs ++ x ∷ []) d
+  pub lengthened : (b c d : X) (xs : List Exchange) (x : Exchange) → Chain meaning gives b xs c → IsExchange meaning gives c x d → Chain meaning gives b (xs ++ x ∷ []) d
   lengthened b c d [] x done one = next one done
   lengthened b c d (y ∷ ys) x (next {d = e} first rest) one = next first (lengthened e c d ys x rest one)
 
--- ---- a frame sent after the least gap
+-- ---- one call of `send`
 
-sent_fits : (f : Frame) (buffer : List ℕ) → FitsBuffer (sent f (length buffer)) buffer
+pub sent_fits : (f : Frame) (buffer : List ℕ) → FitsBuffer (sent f (length buffer)) buffer
 sent_fits (frame.Read b a) buffer = refl
 sent_fits (frame.Write b a d k) buffer = tt
 sent_fits (frame.RegisterRead r) buffer = tt
 sent_fits (frame.RegisterWrite r v) buffer = tt
 sent_fits frame.GlobalReset buffer = tt
 
-pub goes : {X : Type 0} (meaning : X → Meaning) (gives : X → Event → X → Type 0) (c d : X) (gap : ℕ) (f : Frame) (old new : List ℕ) (r : Answer) (low : ℕ) → gap ≡ least_gap (meaning c).config (meaning c).state → gives c (send_event gap f old r new) d → Exchanged (meaning c) (send_event gap f old r new) low (meaning d) → Goes meaning gives c (soonest_exchange (meaning c) f old r new low) d
-goes meaning gives c d gap f old new r low is own exchanged =
-    let x = soonest_exchange (meaning c) f old r new low in
-    let own_now = subst (λ g. gives c (send_event g f old r new) d) is own in
-    let now = subst (λ g. Exchanged (meaning c) (send_event g f old r new) low (meaning d)) is exchanged in
-    let one : refusal (meaning c) (event_of x) ≡ None → Exchanges meaning gives c x d =
-    λ none. record {
-      own = own_now;
-      does = now.does;
-      fits = sent_fits f old;
-      soonest = refl;
-      taken = none;
-      low = now.clocks ∙ ap (λ o. unless_refused o (meaning d).state.latest_low) none;
-    } in
-    record { own = own_now; one = one; goes_on = λ none start xs chain. lengthened meaning gives start c d xs x chain (one none) }
+module _ {X : Type 0} (meaning : X → Meaning) (gives : X → Event → X → Type 0) (c d : X) (f : Frame) (old new : List ℕ) (r : Answer) (low : ℕ) where
+  pub lengthens_chains : (gap : ℕ) → gives c (send_event gap f old r new) d → IsRunStep (meaning c) (send_event gap f old r new) low (meaning d) → LengthensChains meaning gives c (exchange_of gap f old r new low) d
+  lengthens_chains gap own step =
+      let x = exchange_of gap f old r new low in
+      let one : x.gap ≡ least_gap_of (meaning c) → refusal (meaning c) (event_of x) ≡ None → IsExchange meaning gives c x d =
+      λ soonest taken. record {
+        happens = record { own = own; does = step.does };
+        fits = sent_fits f old;
+        soonest = soonest;
+        taken = taken;
+        low = step.clocks ∙ ap (λ o. unless_refused o (meaning d).state.latest_low) taken;
+      } in
+      record { is_exchange = one; lengthens = λ soonest taken start xs chain. lengthened meaning gives start c d xs x chain (one soonest taken) }
+
+  -- what one call comes to, by its gap
+  abbrev pub Call : ℕ → Type 0
+  Call gap = gives c (send_event gap f old r new) d × IsRunStep (meaning c) (send_event gap f old r new) low (meaning d) × LengthensChains meaning gives c (exchange_of gap f old r new low) d
+
+  pub at_gap : (gap least : ℕ) → gap ≡ least → Call gap → Call least
+  at_gap gap least is = subst Call is

@@ -16,11 +16,11 @@ module _ {X : Type 0} (meaning : X → Meaning) (gives : X → Event → X → T
       let frames_left : map frame_of xs ≡ map frame_of ys = cc in
       let gaps : x.gap ≡ y.gap = fst.soonest ∙ ap (λ m. least_gap m.config m.state) (one.means c d s) ∙ sym two.soonest in
       let own = subst (λ g. gives d (sending g x.frame y.before y.answer y.after) b) (sym gaps)
-      (subst (λ f. gives d (sending y.gap f y.before y.answer y.after) b) (sym frames) two.own) in
+      (subst (λ f. gives d (sending y.gap f y.before y.answer y.after) b) (sym frames) two.happens.own) in
       let fits = subst (λ f. FitsBuffer f y.before) (sym frames) two.fits in
-      let o = one.of_frame c d a b x.gap x.frame x.before y.before x.after y.after x.answer y.answer s fst.fits fits fst.own own in
+      let o = one.of_frame c d a b x.gap x.frame x.before y.before x.after y.after x.answer y.answer s fst.fits fits fst.happens.own own in
       let lows : x.low ≡ y.low = fst.low ∙ ap (λ m. m.state.latest_low) (one.means a b o.after) ∙ sym two.low in
-      let bytes = o.came ∙ ap (λ f. read_bytes f y.answer y.after) frames in
+      let bytes = o.bytes ∙ ap (λ f. read_bytes f y.answer y.after) frames in
       let came : came_of x ≡ came_of y = λ i. record { answer = o.answer i; bytes = bytes i; low = lows i } in
       let (ends, left) = one_outcome_of_chains a b p q xs ys o.after frames_left rest more in
       (ends, λ i. came i ∷ left i)

@@ -4,7 +4,7 @@ use Rattle.std.proofs.lemmas.Bool.{cond-true, cond-false, eq-eqb, ne_eqb}
 use Rattle.fault.specs.Refusals.{details, fault_at}
 use Rattle.fault.specs.declared.Fault.{Fault}
 use Rattle.fault.specs.declared.Refusal.{Refusal}
-use Rattle.chip.specs.Exchanges.{low_by_answer, Exchanged}
+use Rattle.chip.specs.Exchanges.{low_by_answer, IsRunStep}
 use Rattle.chip.specs.Sent.{Sent, place, Event, sending, Answer}
 use Rattle.chip.specs.Taken.{Judged, Sends}
 use Rattle.chip.specs.Meaning.{Meaning}
@@ -29,7 +29,7 @@ low_by None m n f old new (Err y) low most j = at_19 y low (ap (λ x. (details x
 
 -- ---- one event
 
-exchanged : (m n : Meaning) (e : Event) (low : ℕ) → Does m e n → CountsFit n → low ≡ clocks_in m e n → Exchanged m e low n
+exchanged : (m n : Meaning) (e : Event) (low : ℕ) → Does m e n → CountsFit n → low ≡ clocks_in m e n → IsRunStep m e low n
 exchanged m n e low does fit clocks = record {
   does = does;
   clocks = clocks;
@@ -42,7 +42,7 @@ exchanged m n e low does fit clocks = record {
 }
 
 -- one frame
-pub exchanged_by : (m n : Meaning) (gap : ℕ) (f : Sent) (old new : List ℕ) (r : Answer) (low : ℕ) → Sends m gap f old r n new → low ≡ low_by_answer r n.state.latest_low → CountsFit n → Exchanged m (sending gap f old r new) low n
+pub exchanged_by : (m n : Meaning) (gap : ℕ) (f : Sent) (old new : List ℕ) (r : Answer) (low : ℕ) → Sends m gap f old r n new → low ≡ low_by_answer r n.state.latest_low → CountsFit n → IsRunStep m (sending gap f old r new) low n
 exchanged_by m n gap f old new r low sends is fit =
     exchanged m n (sending gap f old r new) low sends fit
     (is ∙ low_by _ m n f old new r n.state.latest_low (λ x e. (refused_range m.config m.state gap f x e).1) sends.judged)

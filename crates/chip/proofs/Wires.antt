@@ -41,7 +41,7 @@ memory_fits : (m : Meaning) (gap a : ℕ) (f : Sent) → bad_start m.config f �
 memory_fits m gap a f test law e =
     let start = sym test ∙ good_start m.config m.state gap f e in
     let below = leb-false _ _ (or_parts (eqb (a % 2) 1) _ start).1 in
-    omega (arith, m.config.most)
+    omega (arith, m.config.within_16_mib)
 
 readable_fits : (k : ℕ) → not (readable k) ≡ false → k ≤ 0xFF
 readable_fits k e = ⊎_elim (λ h. let below = ltb-true k 5 h in omega arith) (λ h. let is = eqb-true k 8 h in omega arith) (or_cases (ltb k 5) _ (not-false _ e))

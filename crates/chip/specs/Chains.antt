@@ -3,7 +3,7 @@
 use Rattle.std.specs.Prelude.{◌≡◌, ℕ, ◌≤◌, List, [], ◌∷◌, length, map, sum_by, None, All}
 use Rattle.chip.specs.Meaning.{Meaning, most_low}
 use Rattle.chip.specs.Refused.{least_gap}
-use Rattle.chip.specs.Runs.{Does, refusal, Step, Runs, CountsFit, RisesBy}
+use Rattle.chip.specs.Runs.{Happens, refusal, Step, Runs, CountsFit, RisesBy}
 use Rattle.chip.specs.Sent.{Sent, Event, sending, Answer, FitsBuffer}
 use Rattle.chip.specs.declared.state.Phase.TheVariants.{Awake}
 
@@ -21,10 +21,9 @@ abbrev pub event_of : Exchange → Event
 event_of x = sending x.gap x.frame x.before x.answer x.after
 
 -- a chip came from c to d by this exchange: after the least gap, taken, and low as long as it says
-pub record Exchanges {X : Type 0} (meaning : X → Meaning) (gives : X → Event → X → Type 0)
+pub record IsExchange {X : Type 0} (meaning : X → Meaning) (gives : X → Event → X → Type 0)
     (c : X) (x : Exchange) (d : X) : Type 0 where
-  pub own : gives c (event_of x) d
-  pub does : Does (meaning c) (event_of x) (meaning d)
+  pub happens : Happens meaning gives c (event_of x) d
   pub fits : FitsBuffer x.frame x.before
   pub soonest : x.gap ≡ least_gap (meaning c).config (meaning c).state
   pub taken : refusal (meaning c) (event_of x) ≡ None
@@ -34,7 +33,7 @@ pub record Exchanges {X : Type 0} (meaning : X → Meaning) (gives : X → Event
 pub data Chain {X : Type 0} (meaning : X → Meaning) (gives : X → Event → X → Type 0) : X → List Exchange → X
     → Type 0 where
   done : {c : X} → Chain meaning gives c [] c
-  next : {c d e : X} {x : Exchange} {rest : List Exchange} → Exchanges meaning gives c x d
+  next : {c d e : X} {x : Exchange} {rest : List Exchange} → IsExchange meaning gives c x d
       → Chain meaning gives d rest e → Chain meaning gives c (x ∷ rest) e
 
 -- ---- what is true of every chain

@@ -11,7 +11,7 @@ pub record SameOutcome {X : Type 0} (same : X → X → Type 0) (f : Sent) (old 
     (new newer : List ℕ) : Type 0 where
   pub after : same p q
   pub answer : r ≡ s
-  pub came : read_bytes f r new ≡ read_bytes f s newer
+  pub bytes : read_bytes f r new ≡ read_bytes f s newer
   pub buffer : old ≡ older → new ≡ newer
 
 -- a value is known by what it shows: from values that show the same, one frame after one gap, and one pulse, have one

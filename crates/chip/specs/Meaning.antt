@@ -59,6 +59,11 @@ pub record Lawful (m : Meaning) : Type 0 where
   pub inside : (c : Coverage) (a : ℕ) → m.refreshes c a ≡ true → a < size m.config
   pub room : 35 + 2 * clocks m.config.clock.lc ≤ most_low m.config
 
+-- what stays the same, stays the same over none and over two
+pub record Composes {X : Type 0} (same : X → X → Type 0) : Type 0 where
+  pub none : (c : X) → same c c
+  pub two : (c d e : X) → same c d → same d e → same c e
+
 -- what never changes: make, pages, clock numbers, and what each coverage refreshes
 pub record SameConfig (m n : Meaning) : Type 0 where
   pub config : n.config ≡ m.config

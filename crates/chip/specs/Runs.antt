@@ -18,6 +18,12 @@ abbrev pub Does : Meaning → Event → Meaning → Type 0
 Does m (sending gap f old r new) n = Sends m gap f old r n new
 Does m (resetting pulse r) n = Resets m pulse r n
 
+-- an event, by the chip's own relation and by what it means
+pub record Happens {X : Type 0} (meaning : X → Meaning) (gives : X → Event → X → Type 0)
+    (c : X) (e : Event) (d : X) : Type 0 where
+  pub own : gives c e d
+  pub does : Does (meaning c) e (meaning d)
+
 -- by what an event is refused, if it is; else it is taken
 abbrev pub refusal : Meaning → Event → Option Refusal
 refusal m (sending gap f old r new) = refused m.config m.state gap f

@@ -14,8 +14,8 @@ pub struct Config {
     /// The size in pages of the make: one page to 16 MiB.
     pub pages: u32,
     pub clock: Clock,
-    ghost some: { 1 ≤ pages },
-    ghost most: { pages * page make ≤ largest_size },
+    ghost has_page: { 1 ≤ pages },
+    ghost within_16_mib: { pages * page make ≤ largest_size },
 }
 
 impl Config {

@@ -3,7 +3,8 @@
 ghost use Rattle.std.specs.Prelude.{◌≡◌};
 ghost use Rattle.chip.specs.Chains.{EveryChain};
 ghost use Rattle.chip.specs.Exact.{OneOutcome, OneOutcomeOfChains};
-ghost use Rattle.chip.specs.Exchanges.{low_by_answer, soonest_exchange, Exchanged, Goes};
+ghost use Rattle.chip.specs.Exchanges.{low_by_answer, least_gap_of, exchange_of};
+ghost use Rattle.chip.specs.Exchanges.{IsRunStep, LengthensChains};
 ghost use Rattle.chip.specs.Runs.{ChangedByWritesOnly, CountsRiseByWhatWasSent};
 ghost use Rattle.chip.specs.Runs.{RefusedLeavesEverything, StrobeReturnsByResetAlone};
 ghost use Rattle.chip.specs.Runs.{ConfigNeverChanges};
@@ -32,14 +33,17 @@ fn low_by_answer(answer: Result<Reply, Fault>, latest: u64) -> u64
     }
 }
 
-/// Sends one frame after a gap, and says how long CE# was low: one step of a run. The clauses
-/// after the first three are true of every run and every chain of this chip.
+/// Sends one frame after a gap, and says how long CE# was low: one step of a run, and one exchange
+/// of a chain where the gap is the least one and the frame is taken. The clauses from
+/// `changed_by_writes_only` on are true of every run and every chain of this chip.
 pub fn exchange<C: Chip>(chip: &mut C, gap: u32, frame: Frame<'_>, buffer: &mut [u8]) -> Outcome
     ensures own { C.Chip.gives chip.old
         (send_event gap frame.entry buffer.old result.answer buffer.new) chip.new }
-    ensures exchanged { Exchanged (C.Chip.meaning chip.old)
+    ensures step { IsRunStep (C.Chip.meaning chip.old)
         (send_event gap frame.entry buffer.old result.answer buffer.new) result.low
         (C.Chip.meaning chip.new) }
+    ensures lengthens { LengthensChains C.Chip.meaning C.Chip.gives chip.old
+        (exchange_of gap frame.entry buffer.old result.answer buffer.new result.low) chip.new }
     ensures same { C.Chip.same_config chip.old chip.new }
     ensures changed_by_writes_only { ChangedByWritesOnly }
     ensures counts_rise_by_what_was_sent { CountsRiseByWhatWasSent }
@@ -53,13 +57,18 @@ pub fn exchange<C: Chip>(chip: &mut C, gap: u32, frame: Frame<'_>, buffer: &mut 
     Outcome { answer, low }
 }
 
-/// Sends one frame as soon as the chip takes it, after the least gap. A frame that is taken lengthens
-/// a chain; frames sent so one after another to a chip that is exact come to one end.
+/// Sends one frame to an exact chip as soon as the chip takes it, after the least gap. Frames sent
+/// so one after another have one outcome.
 pub fn exchange_soonest<C: Exact>(chip: &mut C, frame: Frame<'_>, buffer: &mut [u8]) -> Outcome
-    ensures goes { Goes C.Chip.meaning C.Chip.gives chip.old
-        (soonest_exchange (C.Chip.meaning chip.old) frame.entry buffer.old result.answer
-        buffer.new result.low)
-        chip.new }
+    ensures own { C.Chip.gives chip.old (send_event (least_gap_of (C.Chip.meaning chip.old))
+        frame.entry buffer.old result.answer buffer.new) chip.new }
+    ensures step { IsRunStep (C.Chip.meaning chip.old)
+        (send_event (least_gap_of (C.Chip.meaning chip.old))
+        frame.entry buffer.old result.answer buffer.new) result.low (C.Chip.meaning chip.new) }
+    ensures lengthens { LengthensChains C.Chip.meaning C.Chip.gives chip.old
+        (exchange_of (least_gap_of (C.Chip.meaning chip.old))
+        frame.entry buffer.old result.answer buffer.new result.low) chip.new }
+    ensures same { C.Chip.same_config chip.old chip.new }
     ensures one_outcome { OneOutcome C.Chip.meaning C.Chip.gives C.Exact.shows_same }
     ensures of_chains { OneOutcomeOfChains C.Chip.meaning C.Chip.gives C.Exact.shows_same }
 {

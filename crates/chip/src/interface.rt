@@ -2,7 +2,7 @@
 
 ghost use Rattle.std.specs.Prelude.{◌≡◌, ◌↔◌, IsTrue, length};
 ghost use Rattle.chip.specs.Exact.{OneOutcome};
-ghost use Rattle.chip.specs.Meaning.{Meaning, RefreshesAll, Lawful, SameConfig};
+ghost use Rattle.chip.specs.Meaning.{Meaning, RefreshesAll, Lawful, SameConfig, Composes};
 ghost use Rattle.chip.specs.Runs.{Does};
 ghost use Rattle.chip.specs.Sent.{Event, resetting, send_event};
 
@@ -15,8 +15,8 @@ use register::Coverage;
 /// Whatever takes frames and resets as the data sheets say.
 ///
 /// What a frame does is said twice: by what the chip means (`meaning`), which leaves free what the
-/// data sheets leave free, and by the chip's own relation (`gives`), which holds only where just
-/// this was sent to this chip.
+/// data sheets leave free, and by a relation of the chip's own choice (`gives`). Whoever promises
+/// that relation of a chip that is known by this trait alone has sent just this frame to it.
 pub trait Chip {
     /// What the chip is and holds.
     ghost meaning: { Self → Meaning };
@@ -55,6 +55,8 @@ pub trait Chip {
         ensures same { same_config self.old self.new };
 
     ghost lawful: { (c : Self) → Lawful (meaning c) };
+
+    ghost same_composes: { Composes same_config };
 
     ghost means_the_same: { (c d : Self) → same_config c d → SameConfig (meaning c) (meaning d) };
 }

@@ -5,7 +5,7 @@ use Rattle.fault.specs.declared.Fault.{Fault}
 use Rattle.fault.specs.declared.Refusal.{Refusal}
 use Rattle.frame.specs.declared.burst.Burst.{Burst}
 use Rattle.chip.specs.Exact.{OneOutcome}
-use Rattle.chip.specs.Meaning.{size, SameConfig}
+use Rattle.chip.specs.Meaning.{size, SameConfig, Composes}
 use Rattle.chip.specs.Refused.{refused}
 use Rattle.chip.specs.Sent.{Sent, read, write, register_read, register_write, global_reset, Answer, read_bytes}
 use Rattle.chip.specs.declared.bus_frame.Reply.{Reply}
@@ -13,7 +13,7 @@ use Rattle.register.specs.Registers.{refreshed_span}
 use Rattle.model.specs.Contents.{Contents, meaning, is_within, SameBuild}
 use Rattle.model.specs.Latency.{strobe_stays}
 use Rattle.model.specs.Store.{burst_bytes}
-use Rattle.model.specs.Step.{Outcome, outcome_by, step, Steps, reset_step, Exactly}
+use Rattle.model.specs.Step.{FrameOutcome, outcome_by, step, Steps, reset_step, Exactly}
 
 -- the buffer before a frame decides neither the contents after it nor the answer
 same_after : (o : Option Refusal) (m : Contents) (f : Sent) (old older : List ℕ) →
@@ -33,7 +33,7 @@ filled : (there : Bool) (x : Reply) (e : Fault ℕ) (b : Burst) (a n : ℕ) (byt
 filled true x e b a n bytes old older = refl
 filled false x e b a n bytes old older = refl
 
-abbrev bytes_of : Sent → Outcome → List ℕ
+abbrev bytes_of : Sent → FrameOutcome → List ℕ
 bytes_of f o = read_bytes f o.answer o.buffer
 
 same_bytes : (o : Option Refusal) (m : Contents) (f : Sent) (old older : List ℕ) →
@@ -62,7 +62,7 @@ module _ {X : Type 0} (show : X → Contents) where
           after = one.after ∙ ap (λ m. (step m gap f old).after) same ∙ same_after o n f old older ∙ sym other.after;
           answer = one.answer ∙ ap (λ m. (step m gap f old).answer) same ∙ same_answer o n f old older
               ∙ sym other.answer;
-          came = bytes_by one ∙ ap (λ m. bytes_of f (step m gap f old)) same ∙ same_bytes o n f old older
+          bytes = bytes_by one ∙ ap (λ m. bytes_of f (step m gap f old)) same ∙ same_bytes o n f old older
               ∙ sym (bytes_by other);
           buffer = λ b. one.buffer ∙ (λ i. (step (same i) gap f (b i)).buffer) ∙ sym other.buffer;
         };
@@ -71,6 +71,17 @@ module _ {X : Type 0} (show : X → Contents) where
       one.answer ∙ ap (λ m. (reset_step m pulse).answer) same ∙ sym other.answer,
     );
   }
+
+-- it stays the same over none and over two
+pub same_composes : {X : Type 0} (show : X → Contents) → Composes (λ x y. SameBuild (show x) (show y))
+same_composes show = record {
+  none = λ x. record { config = refl; refresh_word = refl; strobe_count = refl };
+  two = λ x y z p q. record {
+    config = q.config ∙ p.config;
+    refresh_word = q.refresh_word ∙ p.refresh_word;
+    strobe_count = q.strobe_count ∙ p.strobe_count;
+  };
+}
 
 -- what never changes of a model decides its configuration, and what a coverage refreshes
 pub means_the_same : (old new : Contents) → SameBuild old new → SameConfig (meaning old) (meaning new)

@@ -54,13 +54,13 @@ buffer_after m (read b a n) old = if strobe_stays m then burst_bytes m b a n els
 buffer_after m _ old = old
 
 -- what comes of a frame
-pub record Outcome : Type 0 where
+pub record FrameOutcome : Type 0 where
   pub after : Contents
   pub answer : Answer
   pub buffer : List ℕ
 
 -- by what refuses the frame, if anything does
-abbrev pub outcome_by : Option Refusal → Contents → Sent → List ℕ → Outcome
+abbrev pub outcome_by : Option Refusal → Contents → Sent → List ℕ → FrameOutcome
 outcome_by (Some e) m f old = record { after = m; answer = Err (fault_at e (place f)); buffer = old }
 outcome_by None m f old = record {
   after = after_frame m f;
@@ -68,7 +68,7 @@ outcome_by None m f old = record {
   buffer = buffer_after m f old;
 }
 
-abbrev pub step : Contents → ℕ → Sent → List ℕ → Outcome
+abbrev pub step : Contents → ℕ → Sent → List ℕ → FrameOutcome
 step m gap f old = outcome_by (refused m.config m.state gap f) m f old
 
 -- the contents, the answer and the buffer are those of the step

@@ -6,7 +6,7 @@ ghost use Rattle.chip.specs.Runs.{Does};
 ghost use Rattle.chip.specs.Sent.{resetting, send_event};
 ghost use Rattle.model.specs.Contents.{contents, meaning, SameBuild};
 ghost use Rattle.model.specs.Fresh.{is_bad_store, refused, IsFresh};
-ghost use Rattle.model.specs.OneOutcome.{one_outcome, means_the_same};
+ghost use Rattle.model.specs.OneOutcome.{one_outcome, same_composes, means_the_same};
 ghost use Rattle.model.specs.Step.{Exactly};
 ghost use Rattle.model.specs.Wins.{WritesWin};
 ghost use Rattle.std.proofs.Common.{rules};
@@ -77,6 +77,8 @@ impl<P: Part> Chip for Model<P> {
     ghost same_config = { λ m n. SameBuild (contents m.device) (contents n.device) };
 
     ghost lawful = { Prim.search rules };
+
+    ghost same_composes = { same_composes (λ m. contents m.device) };
 
     ghost means_the_same = { λ m n. means_the_same (contents m.device) (contents n.device) };
 

@@ -33,8 +33,9 @@ use Rattle.chip.specs.declared.config.Config.{Config}
 use Rattle.chip.specs.declared.bus_frame.Reply.{Reply}
 use Rattle.chip.specs.declared.bus_frame.Reply.TheVariants.{Done}
 use Rattle.chip.specs.declared.state.State.{State}
-use Rattle.chip.specs.Runs.{Does}
-use Rattle.scrambler.specs.Scramblers.{key_at, scrambler, combined, combined_back, SentCombined}
+use Rattle.chip.specs.Runs.{Does, Happens}
+use Rattle.chip.proofs.Chains.{sent_fits}
+use Rattle.scrambler.specs.Scramblers.{combined_frame, key_at, scrambler, combined, combined_back, SentCombined}
 
 -- ---- bytes
 
@@ -303,17 +304,17 @@ read_cases key m n gap b a c old mid r fits =
     subst (λ (k : ℕ). Sends m gap (read b a k) old r n mid → Sends (scrambler key m) gap (read b a k) old r (scrambler key n) (combined_back key n (read b a k) r mid)) (sym fits)
     (read_whole key m n gap b a old mid r)
 
-does_above : (key : List ℕ) (m n : Meaning) (gap : ℕ) (f : Sent) (old new : List ℕ) (r : Answer) → FitsBuffer f old → SentCombined (λ x. x) Does key m gap f old r n new → Sends (scrambler key m) gap f old r (scrambler key n) new
-does_above key m n gap (read b a c) old new r fits below =
-    rw below.comes_back (read_cases key m n gap b a c old below.buffer r fits below.sends)
-does_above key m n gap (write b a d k) old new r fits below =
-    rw below.comes_back (write_cases key m n gap b a d k old below.buffer r _ refl below.sends)
-does_above key m n gap (register_read k) old new r fits below =
-    rw below.comes_back (sends_straight key m n (register_read k) tt old below.buffer r gap below.sends)
-does_above key m n gap (register_write k v) old new r fits below =
-    rw below.comes_back (sends_straight key m n (register_write k v) tt old below.buffer r gap below.sends)
-does_above key m n gap global_reset old new r fits below =
-    rw below.comes_back (sends_straight key m n global_reset tt old below.buffer r gap below.sends)
+does_above : (key : List ℕ) (m n : Meaning) (gap : ℕ) (f : Sent) (old buffer new : List ℕ) (r : Answer) → FitsBuffer f old → Sends m gap (combined_frame key m f) old r n buffer → new ≡ combined_back key n f r buffer → Sends (scrambler key m) gap f old r (scrambler key n) new
+does_above key m n gap (read b a c) old buffer new r fits sends back =
+    rw back (read_cases key m n gap b a c old buffer r fits sends)
+does_above key m n gap (write b a d k) old buffer new r fits sends back =
+    rw back (write_cases key m n gap b a d k old buffer r _ refl sends)
+does_above key m n gap (register_read k) old buffer new r fits sends back =
+    rw back (sends_straight key m n (register_read k) tt old buffer r gap sends)
+does_above key m n gap (register_write k v) old buffer new r fits sends back =
+    rw back (sends_straight key m n (register_write k v) tt old buffer r gap sends)
+does_above key m n gap global_reset old buffer new r fits sends back =
+    rw back (sends_straight key m n global_reset tt old buffer r gap sends)
 
 -- ---- a reset
 
@@ -332,51 +333,45 @@ resets_above key pulse m n r below = record { judged = reset_above key m n r (re
 
 -- ---- the frame that goes down, and what comes back
 
-sent_fits : (f : Frame) (buffer : List ℕ) → FitsBuffer (sent f (length buffer)) buffer
-sent_fits (frame.Read b a) buffer = refl
-sent_fits (frame.Write b a d k) buffer = tt
-sent_fits (frame.RegisterRead r) buffer = tt
-sent_fits (frame.RegisterWrite r v) buffer = tt
-sent_fits frame.GlobalReset buffer = tt
-
 -- what a frame does above, where it was sent below combined
-pub does_as_sent : (key : List ℕ) (m n : Meaning) (gap : ℕ) (f : Frame) (old new : List ℕ) (r : Answer) → SentCombined (λ x. x) Does key m gap (sent f (length old)) old r n new → Does (scrambler key m) (send_event gap f old r new) (scrambler key n)
-does_as_sent key m n gap f old new r = does_above key m n gap (sent f (length old)) old new r (sent_fits f old)
+pub does_as_sent : {X : Type 0} (meaning : X → Meaning) (gives : X → Event → X → Type 0) (key : List ℕ) (x y : X) (gap : ℕ) (f : Frame) (old new : List ℕ) (r : Answer) → SentCombined meaning gives key x gap (sent f (length old)) old r y new → Does (scrambler key (meaning x)) (send_event gap f old r new) (scrambler key (meaning y))
+does_as_sent meaning gives key x y gap f old new r below =
+    does_above key (meaning x) (meaning y) gap (sent f (length old)) old below.buffer new r (sent_fits f old) below.sends.does below.comes_back
 
 module _ {X : Type 0} (meaning : X → Meaning) (gives : X → Event → X → Type 0) (key : List ℕ) (x y : X) (gap : ℕ) (f : Frame) (old : List ℕ) where
   abbrev Through : Frame → Answer → List ℕ → Type 0
   Through g r new = SentCombined meaning gives key x gap (sent g (length old)) old r y new
 
-  pub answered_read : (b : Burst) (a : ℕ) → f ≡ frame.Read b a → (reply : Reply) (mid new : List ℕ) → new ≡ combined key (address (meaning y).config (meaning y).state b a) mid → gives x (send_event gap f old (Ok reply) mid) y → Through f (Ok reply) new
+  pub answered_read : (b : Burst) (a : ℕ) → f ≡ frame.Read b a → (reply : Reply) (mid new : List ℕ) → new ≡ combined key (address (meaning y).config (meaning y).state b a) mid → Happens meaning gives x (send_event gap f old (Ok reply) mid) y → Through f (Ok reply) new
   answered_read b a is reply mid new back =
-      subst (λ g. gives x (send_event gap g old (Ok reply) mid) y → Through g (Ok reply) new) (sym is) (λ given. record { buffer = mid; sends = given; comes_back = back })
+      subst (λ g. Happens meaning gives x (send_event gap g old (Ok reply) mid) y → Through g (Ok reply) new) (sym is) (λ given. record { buffer = mid; sends = given; comes_back = back })
 
-  pub faulted_read : (b : Burst) (a : ℕ) → f ≡ frame.Read b a → (r : Answer) (d : Fault ℕ) (mid : List ℕ) → r ≡ Err d → gives x (send_event gap f old (Err d) mid) y → Through f r mid
+  pub faulted_read : (b : Burst) (a : ℕ) → f ≡ frame.Read b a → (r : Answer) (d : Fault ℕ) (mid : List ℕ) → r ≡ Err d → Happens meaning gives x (send_event gap f old (Err d) mid) y → Through f r mid
   faulted_read b a is r d mid back =
-      subst (λ g. gives x (send_event gap g old (Err d) mid) y → Through g r mid) (sym is)
+      subst (λ g. Happens meaning gives x (send_event gap g old (Err d) mid) y → Through g r mid) (sym is)
       (λ given. rw back record { buffer = mid; sends = given; comes_back = refl })
 
   -- the data as they go down
-  data_down : (b : Burst) (a : ℕ) (d k sent_data : List ℕ) (r : Answer) (new : List ℕ) → sent_data ≡ cond (leb (length d) 1052) (combined key (address (meaning x).config (meaning x).state b a) d) d → gives x (sending gap (write b a sent_data k) old r new) y → SentCombined meaning gives key x gap (write b a d k) old r y new
+  data_down : (b : Burst) (a : ℕ) (d k sent_data : List ℕ) (r : Answer) (new : List ℕ) → sent_data ≡ cond (leb (length d) 1052) (combined key (address (meaning x).config (meaning x).state b a) d) d → Happens meaning gives x (sending gap (write b a sent_data k) old r new) y → SentCombined meaning gives key x gap (write b a d k) old r y new
   data_down b a d k sent_data r new is given = record {
     buffer = new;
-    sends = subst (λ e. gives x (sending gap (write b a e k) old r new) y) is given;
+    sends = subst (λ e. Happens meaning gives x (sending gap (write b a e k) old r new) y) is given;
     comes_back = refl;
   }
 
-  pub combined_write : (b : Burst) (a : ℕ) (d k : Bor (List ℕ)) → f ≡ frame.Write b a d k → (copy mixed : List ℕ) → length d.now ≤ 1052 → copy ≡ d.now → mixed ≡ combined key (address (meaning x).config (meaning x).state b a) copy → (r : Answer) (new : List ℕ) → gives x (sending gap (write b a mixed k.now) old r new) y → Through f r new
+  pub combined_write : (b : Burst) (a : ℕ) (d k : Bor (List ℕ)) → f ≡ frame.Write b a d k → (copy mixed : List ℕ) → length d.now ≤ 1052 → copy ≡ d.now → mixed ≡ combined key (address (meaning x).config (meaning x).state b a) copy → (r : Answer) (new : List ℕ) → Happens meaning gives x (sending gap (write b a mixed k.now) old r new) y → Through f r new
   combined_write b a d k is copy mixed short copied mixes r new given =
       let to = address (meaning x).config (meaning x).state b a in
       let down = mixes ∙ ap (combined key to) copied ∙ sym (cond-true _ (combined key to d.now) d.now (le-leb (length d.now) 1052 short)) in
       subst (λ g. Through g r new) (sym is) (data_down b a d.now k.now mixed r new down given)
 
-  pub long_write : (b : Burst) (a : ℕ) (d k : Bor (List ℕ)) → f ≡ frame.Write b a d k → 1052 < length d.now → (r : Answer) (new : List ℕ) → gives x (send_event gap f old r new) y → Through f r new
+  pub long_write : (b : Burst) (a : ℕ) (d k : Bor (List ℕ)) → f ≡ frame.Write b a d k → 1052 < length d.now → (r : Answer) (new : List ℕ) → Happens meaning gives x (send_event gap f old r new) y → Through f r new
   long_write b a d k is long r new =
       let to = address (meaning x).config (meaning x).state b a in
       let down = sym (cond-false _ (combined key to d.now) d.now (lt-leb (length d.now) 1052 long)) in
-      subst (λ g. gives x (send_event gap g old r new) y → Through g r new) (sym is) (data_down b a d.now k.now d.now r new down)
+      subst (λ g. Happens meaning gives x (send_event gap g old r new) y → Through g r new) (sym is) (data_down b a d.now k.now d.now r new down)
 
-  pub as_it_is : (g : Frame) → ((b : _) (a : _) → g ≡ frame.Read b a → ⊥) → ((b : _) (a : _) (d : _) (k : _) → g ≡ frame.Write b a d k → ⊥) → (r : Answer) (new : List ℕ) → gives x (send_event gap g old r new) y → Through g r new
+  pub as_it_is : (g : Frame) → ((b : _) (a : _) → g ≡ frame.Read b a → ⊥) → ((b : _) (a : _) (d : _) (k : _) → g ≡ frame.Write b a d k → ⊥) → (r : Answer) (new : List ℕ) → Happens meaning gives x (send_event gap g old r new) y → Through g r new
   as_it_is (frame.Read b a) no_read no_write r new given = absurd (no_read b a refl)
   as_it_is (frame.Write b a d k) no_read no_write r new given = absurd (no_write b a d k refl)
   as_it_is (frame.RegisterRead k) no_read no_write r new given = record { buffer = new; sends = given; comes_back = refl }

@@ -2,7 +2,7 @@
 use Rattle.std.specs.Prelude.{◌≡◌, ℕ, List, Ok, Err, refl}
 use Rattle.std.proofs.Common.{sym, ap, ◌∙◌, subst}
 use Rattle.chip.specs.Exact.{OneOutcome, SameOutcome}
-use Rattle.chip.specs.Meaning.{Meaning, Lawful, SameConfig}
+use Rattle.chip.specs.Meaning.{Meaning, Lawful, SameConfig, Composes}
 use Rattle.chip.specs.Sent.{Sent, read, write, register_read, register_write, global_reset, Event, sending, Answer, FitsBuffer, read_bytes}
 use Rattle.chip.specs.Taken.{address}
 use Rattle.scrambler.specs.Scramblers.{scrambler, combined, combined_frame, combined_back, Scrambled}
@@ -13,6 +13,14 @@ lawful_scrambler key m law = record { full = law.full; inside = law.inside; room
 pub same_config_above : (key key' : List ℕ) (m n : Meaning) → SameConfig m n → SameConfig (scrambler key m)
     (scrambler key' n)
 same_config_above key key' m n same = record { config = same.config; refreshes = same.refreshes }
+
+-- what stays the same of a key and of a chip composes where it does of the chip
+pub same_composes : {W X : Type 0} (key : W → List ℕ) (chip : W → X) (same : X → X → Type 0) → Composes same
+    → Composes (λ w v. (key v ≡ key w) × same (chip w) (chip v))
+same_composes key chip same below = record {
+  none = λ w. (refl, below.none (chip w));
+  two = λ u v w p q. (q.0 ∙ p.0, below.two (chip u) (chip v) (chip w) p.1 q.1);
+}
 
 -- ---- one outcome
 
@@ -52,11 +60,11 @@ module _ {W X : Type 0} (key : W → List ℕ) (chip : W → X) (meaning : X →
       let means = one.means (chip c) (chip d) shows in
       let same_down : down ≡ combined_frame (key d) (meaning (chip d)) f = λ i. combined_frame (keys i) (means i) f in
       let sends' =
-      subst (λ g. gives (chip d) (sending gap g older s below'.buffer) (chip q)) (sym same_down) below'.sends in
+      subst (λ g. gives (chip d) (sending gap g older s below'.buffer) (chip q)) (sym same_down) below'.sends.own in
       let o =
       one.of_frame (chip c) (chip d) (chip p) (chip q) gap down old older below.buffer below'.buffer r s shows
       (combined_fits (key c) (meaning (chip c)) f old fits) (combined_fits (key c) (meaning (chip c)) f older fits')
-      below.sends sends' in
+      below.sends.own sends' in
       let ends = one.means (chip p) (chip q) o.after in
       let mine = combined_back (key c) (meaning (chip p)) f in
       let same_back : combined_back (key d) (meaning (chip q)) f ≡ mine =
@@ -64,11 +72,11 @@ module _ {W X : Type 0} (key : W → List ℕ) (chip : W → X) (meaning : X →
       let back' : newer ≡ mine r below'.buffer =
       below'.comes_back ∙ ap (λ g. g s below'.buffer) same_back ∙ ap (λ x. mine x below'.buffer) (sym o.answer) in
       let bytes : read_bytes down r below.buffer ≡ read_bytes down r below'.buffer =
-      o.came ∙ ap (λ x. read_bytes down x below'.buffer) (sym o.answer) in
+      o.bytes ∙ ap (λ x. read_bytes down x below'.buffer) (sym o.answer) in
       record {
         after = (stays ∙ keys ∙ sym stays', o.after);
         answer = o.answer;
-        came =
+        bytes =
             ap (read_bytes f r) below.comes_back
             ∙ came_up (key c) (meaning (chip c)) (meaning (chip p)) f r below.buffer below'.buffer bytes
             ∙ ap (read_bytes f r) (sym back')
@@ -83,6 +91,6 @@ module _ {W X : Type 0} (key : W → List ℕ) (chip : W → X) (meaning : X →
     means = λ w v is i. scrambler (is.0 i) (one.means (chip w) (chip v) is.1 i);
     of_frame = frame_outcome one;
     of_pulse = λ c d p q pulse r s is below below'.
-        let o = one.of_pulse (chip c) (chip d) (chip p) (chip q) pulse r s is.1 below.1 below'.1 in
+        let o = one.of_pulse (chip c) (chip d) (chip p) (chip q) pulse r s is.1 below.1.own below'.1.own in
         ((below.0 ∙ is.0 ∙ sym below'.0, o.0), o.1);
   }

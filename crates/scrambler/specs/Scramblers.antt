@@ -2,6 +2,7 @@
 use Rattle.std.specs.Prelude.{◌≡◌, ℕ, ◌%◌, if◌then◌else◌, List, map, length, Ok, bit_xor, nat_le, slice_index}
 use Rattle.std.specs.List.{range_with_len}
 use Rattle.chip.specs.Meaning.{Meaning}
+use Rattle.chip.specs.Runs.{Happens}
 use Rattle.chip.specs.Sent.{Sent, read, write, Event, sending, resetting, Answer}
 use Rattle.chip.specs.Taken.{address}
 
@@ -40,7 +41,7 @@ combined_back key n _ _ buffer = buffer
 pub record SentCombined {X : Type 0} (meaning : X → Meaning) (gives : X → Event → X → Type 0) (key : List ℕ) (x : X)
     (gap : ℕ) (f : Sent) (old : List ℕ) (r : Answer) (y : X) (new : List ℕ) : Type 0 where
   pub buffer : List ℕ
-  pub sends : gives x (sending gap (combined_frame key (meaning x) f) old r buffer) y
+  pub sends : Happens meaning gives x (sending gap (combined_frame key (meaning x) f) old r buffer) y
   pub comes_back : new ≡ combined_back key (meaning y) f r buffer
 
 -- what a scrambler with this key does to the chip below, from x to y, and nothing else
@@ -48,4 +49,5 @@ abbrev pub Scrambled : {X : Type 0} → (X → Meaning) → (X → Event → X �
     → Type 0
 Scrambled meaning gives key x (sending gap f old r new) key' y =
     (key' ≡ key) × SentCombined meaning gives key x gap f old r y new
-Scrambled meaning gives key x (resetting pulse r) key' y = (key' ≡ key) × gives x (resetting pulse r) y
+Scrambled meaning gives key x (resetting pulse r) key' y =
+    (key' ≡ key) × Happens meaning gives x (resetting pulse r) y

@@ -61,7 +61,7 @@ impl<C: Chip> Scrambler<C> {
 
 impl<C: Chip> Chip for Scrambler<C> {
     ghost use Rattle.scrambler.specs.Scramblers.{scrambler, Scrambled};
-    ghost use Rattle.scrambler.specs.Laws.{lawful_scrambler, same_config_above};
+    ghost use Rattle.scrambler.specs.Laws.{lawful_scrambler, same_composes, same_config_above};
 
     ghost meaning = { λ s. scrambler s.key (C.Chip.meaning s.chip) };
 
@@ -70,6 +70,8 @@ impl<C: Chip> Chip for Scrambler<C> {
     ghost same_config = { λ s t. (t.key ≡ s.key) × C.Chip.same_config s.chip t.chip };
 
     ghost lawful = { λ s. lawful_scrambler _ _ (C.Chip.lawful s.chip) };
+
+    ghost same_composes = { same_composes (λ s. s.key) (λ s. s.chip) _ C.Chip.same_composes };
 
     ghost means_the_same = { λ s t same.
         same_config_above _ _ _ _ (C.Chip.means_the_same s.chip t.chip same.1) };

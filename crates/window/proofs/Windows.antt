@@ -30,7 +30,7 @@ use Rattle.chip.specs.declared.bus_frame.Frame.TheVariants as frame
 use Rattle.chip.specs.declared.config.Config.{Config}
 use Rattle.chip.specs.declared.state.State.{State}
 use Rattle.chip.proofs.Tests.{good_start}
-use Rattle.chip.specs.Runs.{Does}
+use Rattle.chip.specs.Runs.{Does, Happens}
 use Rattle.window.specs.Laws.{parts, window_equal, same_config_above}
 use Rattle.window.specs.Windows.{shift, window_config, window, placed, moved, lowered, SentBelow}
 
@@ -81,7 +81,7 @@ range_moved h m c from count law below a low high =
     (λ fits. below (a + shift h m.config) (omega arith) (omega arith))
     (λ past.
     let first = law.inside c (2 ^ 32 - 1) (below (2 ^ 32 - 1) (omega arith) (omega arith)) in
-    absurd (omega (arith, m.config.most)))
+    absurd (omega (arith, m.config.within_16_mib)))
     (cases_lt (from + shift h m.config) (2 ^ 32))
 
 range_back : (h : ℕ) (m : Meaning) (c : Coverage) (from count : ℕ) → Lawful m → ((a : ℕ) → from ≤ a → a < from + count → m.refreshes c (a + shift h m.config) ≡ true) → (a : ℕ) → moved (shift h m.config) from ≤ a → a < moved (shift h m.config) from + count → m.refreshes c a ≡ true
@@ -92,7 +92,7 @@ range_back h m c from count law above a low high =
     subst (λ x. m.refreshes c x ≡ true) back (above (a - shift h m.config) (omega arith) (omega arith)))
     (λ past.
     let first = law.inside c (from + shift h m.config) (above from (omega arith) (omega arith)) in
-    absurd (omega (arith, m.config.most)))
+    absurd (omega (arith, m.config.within_16_mib)))
     (cases_lt (from + shift h m.config) (2 ^ 32))
 
 pub refreshed_moved : (h : ℕ) (m : Meaning) (c : Coverage) (from count low : ℕ) (r : Bool) → Lawful m → low ≡ moved (shift h m.config) from → Decides r ((a : ℕ) → low ≤ a → a < low + count → m.refreshes c a ≡ true) → Decides r ((a : ℕ) → from ≤ a → a < from + count → m.refreshes c (a + shift h m.config) ≡ true)
@@ -122,7 +122,7 @@ when_both false w f g = g w
 
 module _ (h : ℕ) (k : Config) (s : State) (some : h < k.pages) where
   start_below : (a : ℕ) → is_bad_start (window_config h k some) a ≡ is_bad_start k (moved (shift h k) a)
-  start_below a = start_same (shift h k) (size k) (size (window_config h k some)) a (even_pages k.make h) (parts h k some) k.most
+  start_below a = start_same (shift h k) (size k) (size (window_config h k some)) a (even_pages k.make h) (parts h k some) k.within_16_mib
 
   -- a frame is refused as the frame below is
   pub refused_below : (gap : ℕ) (f : Sent) → refused (window_config h k some) s gap f ≡ refused k s gap (lowered (shift h k) f)
@@ -235,8 +235,8 @@ module _ (h : ℕ) (m n : Meaning) (p : h < m.config.pages) (q : h < n.config.pa
   }
 
   -- what is sent below does in the window what the frame does
-  pub does_above : (gap : ℕ) (f : Sent) (old new : List ℕ) (r : Answer) → SentBelow (λ x. x) Does h m gap f old r n new → Sends (window h m p) gap f old r (window h n q) new
-  does_above gap f old new r below = rw below.comes_back (sends_above gap f old new below.answer below.sends)
+  pub does_above : (gap : ℕ) (f : Sent) (old new : List ℕ) (answer r : Answer) → r ≡ placed (place f) answer → Sends m gap (lowered (shift h m.config) f) old answer n new → Sends (window h m p) gap f old r (window h n q) new
+  does_above gap f old new answer r back below = rw back (sends_above gap f old new answer below)
 
   reset_above : (r : Result (Unit {0}) (Fault ℕ)) (o : Option Refusal) → ResetJudged o m r n → ResetJudged o (window h m p) r (window h n q)
   reset_above r (Some e) (answer, same) = (answer, window_equal h h n m refl same q p)
@@ -273,9 +273,9 @@ placed_by Q p (Ok x) back is told = told
 placed_by Q p (Err d) back is told =
     let (e, back_is, q) = err_from_is_err_and back told in back_is ∙ ap (λ x. Err x) (is d e q)
 
-pub sent_below : {X : Type 0} (meaning : X → Meaning) (gives : X → Event → X → Type 0) (h : ℕ) (x y : X) (gap : ℕ) (f below : Sent) (old new : List ℕ) (r back : Answer) → below ≡ lowered (shift h (meaning x).config) f → back ≡ placed (place f) r → gives x (sending gap below old r new) y → SentBelow meaning gives h x gap f old back y new
-sent_below meaning gives h x y gap f below old new r back below_is back_is sends = record {
+pub sent_below : {X : Type 0} (meaning : X → Meaning) (gives : X → Event → X → Type 0) (h : ℕ) (x y : X) (gap : ℕ) (f below : Sent) (old new : List ℕ) (r back : Answer) → below ≡ lowered (shift h (meaning x).config) f → back ≡ placed (place f) r → gives x (sending gap below old r new) y → Does (meaning x) (sending gap below old r new) (meaning y) → SentBelow meaning gives h x gap f old back y new
+sent_below meaning gives h x y gap f below old new r back below_is back_is own does = record {
   answer = r;
-  sends = subst (λ g. gives x (sending gap g old r new) y) below_is sends;
+  sends = subst (λ g. Happens meaning gives x (sending gap g old r new) y) below_is record { own = own; does = does };
   comes_back = back_is;
 }

@@ -7,7 +7,7 @@ use Rattle.frame.specs.declared.make.Make.{Make}
 use Rattle.frame.specs.declared.make.Make.TheVariants as make
 use Rattle.register.specs.declared.fields.Coverage.{Coverage}
 use Rattle.chip.specs.Exact.{OneOutcome, SameOutcome}
-use Rattle.chip.specs.Meaning.{Meaning, Lawful, SameConfig, size}
+use Rattle.chip.specs.Meaning.{Meaning, Lawful, SameConfig, Composes, size}
 use Rattle.chip.specs.Sent.{Sent, read, write, register_read, register_write, global_reset, place, Event, sending, Answer, FitsBuffer, read_bytes}
 use Rattle.chip.specs.declared.config.Config.{Config}
 use Rattle.window.specs.Windows.{shift, window_config, window, lowered, placed, Windowed}
@@ -67,6 +67,14 @@ same_config_above h i m n hides same =
       refreshes = λ i c a. same.refreshes i c (a + shift h (same.config i));
     })
 
+-- what stays the same of hidden pages and of a chip composes where it does of the chip
+pub same_composes : {W X : Type 0} (hidden : W → ℕ) (chip : W → X) (same : X → X → Type 0) → Composes same
+    → Composes (λ w v. (hidden v ≡ hidden w) × same (chip w) (chip v))
+same_composes hidden chip same below = record {
+  none = λ w. (refl, below.none (chip w));
+  two = λ u v w p q. (q.0 ∙ p.0, below.two (chip u) (chip v) (chip w) p.1 q.1);
+}
+
 -- ---- one outcome
 
 lowered_fits : (by : ℕ) (f : Sent) (buffer : List ℕ) → FitsBuffer f buffer → FitsBuffer (lowered by f) buffer
@@ -105,17 +113,17 @@ module _ {W X : Type 0} (hidden : W → ℕ) (chip : W → X) (meaning : X → M
       let same_by : by ≡ by' = λ i. shift (hides i) (means i).config in
       let sends' =
       subst (λ k. gives (chip d) (sending gap (lowered k f) older below'.answer newer) (chip q)) (sym same_by)
-      below'.sends in
+      below'.sends.own in
       let o =
       one.of_frame (chip c) (chip d) (chip p) (chip q) gap (lowered by f) old older new newer below.answer
-      below'.answer shows (lowered_fits by f old fits) (lowered_fits by f older fits') below.sends sends' in
+      below'.answer shows (lowered_fits by f old fits) (lowered_fits by f older fits') below.sends.own sends' in
       record {
         after = (stays ∙ hides ∙ sym stays', o.after);
         answer = below.comes_back ∙ ap (placed (place f)) o.answer ∙ sym below'.comes_back;
-        came =
+        bytes =
             ap (λ x. read_bytes f x new) below.comes_back
             ∙ came_up by (place f) f below.answer new
-            ∙ o.came
+            ∙ o.bytes
             ∙ sym (came_up by (place f) f below'.answer newer)
             ∙ ap (λ x. read_bytes f x newer) (sym below'.comes_back);
         buffer = o.buffer;
@@ -130,6 +138,6 @@ module _ {W X : Type 0} (hidden : W → ℕ) (chip : W → X) (meaning : X → M
         window_equal (hidden w) (hidden v) (meaning (chip w)) (meaning (chip v)) is.0 means (some w) (some v);
     of_frame = frame_outcome one;
     of_pulse = λ c d p q pulse r s is below below'.
-        let o = one.of_pulse (chip c) (chip d) (chip p) (chip q) pulse r s is.1 below.1 below'.1 in
+        let o = one.of_pulse (chip c) (chip d) (chip p) (chip q) pulse r s is.1 below.1.own below'.1.own in
         ((below.0 ∙ is.0 ∙ sym below'.0, o.0), o.1);
   }

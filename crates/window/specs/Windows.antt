@@ -4,9 +4,10 @@ use Rattle.fault.specs.Refusals.{fault_at}
 use Rattle.fault.specs.declared.Fault.{Fault}
 use Rattle.frame.specs.Pages.{page}
 use Rattle.chip.specs.Meaning.{Meaning}
+use Rattle.chip.specs.Runs.{Happens}
 use Rattle.chip.specs.Sent.{Sent, read, write, place, Event, sending, resetting, Answer}
 use Rattle.chip.specs.declared.config.Config.{Config}
-use Rattle.window.specs.Sizes.{some_left, rest_fits}
+use Rattle.window.specs.Sizes.{page_left, rest_fits}
 
 -- ---- what a window means
 
@@ -20,8 +21,8 @@ window_config hidden k some = record {
   make = k.make;
   pages = k.pages - hidden;
   clock = k.clock;
-  some = some_left hidden k some;
-  most = rest_fits hidden k;
+  has_page = page_left hidden k some;
+  within_16_mib = rest_fits hidden k;
 }
 
 -- byte a is the byte below at a + shift, refreshed as that is; all else is as below
@@ -53,11 +54,12 @@ placed p (Err f) = Err (fault_at f.refusal p)
 pub record SentBelow {X : Type 0} (meaning : X → Meaning) (gives : X → Event → X → Type 0) (hidden : ℕ) (x : X)
     (gap : ℕ) (f : Sent) (old : List ℕ) (r : Answer) (y : X) (new : List ℕ) : Type 0 where
   pub answer : Answer
-  pub sends : gives x (sending gap (lowered (shift hidden (meaning x).config) f) old answer new) y
+  pub sends : Happens meaning gives x (sending gap (lowered (shift hidden (meaning x).config) f) old answer new) y
   pub comes_back : r ≡ placed (place f) answer
 
 -- what a window that hides so many pages does to the chip below, from x to y, and nothing else
 abbrev pub Windowed : {X : Type 0} → (X → Meaning) → (X → Event → X → Type 0) → ℕ → X → Event → ℕ → X → Type 0
 Windowed meaning gives hidden x (sending gap f old r new) hidden' y =
     (hidden' ≡ hidden) × SentBelow meaning gives hidden x gap f old r y new
-Windowed meaning gives hidden x (resetting pulse r) hidden' y = (hidden' ≡ hidden) × gives x (resetting pulse r) y
+Windowed meaning gives hidden x (resetting pulse r) hidden' y =
+    (hidden' ≡ hidden) × Happens meaning gives x (resetting pulse r) y

@@ -16,7 +16,7 @@ use register::Coverage;
 pub struct Window<C: Chip> {
     chip: C,
     hidden: u32,
-    ghost some: { hidden < (C.Chip.meaning chip).config.pages },
+    ghost page_left: { hidden < (C.Chip.meaning chip).config.pages },
 }
 
 impl<C: Chip> Window<C> {
@@ -58,19 +58,21 @@ impl<C: Chip> Window<C> {
 
 impl<C: Chip> Chip for Window<C> {
     ghost use Rattle.window.specs.Windows.{window, Windowed};
-    ghost use Rattle.window.specs.Laws.{lawful_window, same_config_above};
+    ghost use Rattle.window.specs.Laws.{lawful_window, same_composes, same_config_above};
 
-    ghost meaning = { λ w. window w.hidden (C.Chip.meaning w.chip) w.some };
+    ghost meaning = { λ w. window w.hidden (C.Chip.meaning w.chip) w.page_left };
 
     ghost gives = { λ w e v.
         Windowed C.Chip.meaning C.Chip.gives w.hidden w.chip e v.hidden v.chip };
 
     ghost same_config = { λ w v. (v.hidden ≡ w.hidden) × C.Chip.same_config w.chip v.chip };
 
-    ghost lawful = { λ w. lawful_window _ _ w.some (C.Chip.lawful w.chip) };
+    ghost lawful = { λ w. lawful_window _ _ w.page_left (C.Chip.lawful w.chip) };
+
+    ghost same_composes = { same_composes (λ w. w.hidden) (λ w. w.chip) _ C.Chip.same_composes };
 
     ghost means_the_same = { λ w v same. same_config_above w.hidden v.hidden _ _ same.0
-        (C.Chip.means_the_same w.chip v.chip same.1) w.some v.some };
+        (C.Chip.means_the_same w.chip v.chip same.1) w.page_left v.page_left };
 
     fn config(&self) -> Config {
         let config = self.chip.config();
@@ -126,6 +128,6 @@ impl<C: Exact> Exact for Window<C> {
 
     ghost shows_same = { λ w v. (w.hidden ≡ v.hidden) × C.Exact.shows_same w.chip v.chip };
 
-    ghost one_outcome = { window_outcome (λ w. w.hidden) (λ w. w.chip) _ _ _ (λ w. w.some)
+    ghost one_outcome = { window_outcome (λ w. w.hidden) (λ w. w.chip) _ _ _ (λ w. w.page_left)
         C.Exact.one_outcome };
 }

@@ -1,5 +1,4 @@
 use Rattle.std.proofs.Common.{◌≡◌, length, refl, ap, ◌∙◌, rules}
-use Rattle.chip.specs.Runs.{Does}
 use Rattle.chip.specs.Sent.{sent}
 use Rattle.window.specs.Windows.{shift, moved, lowered, placed}
 use Rattle.window.proofs.Windows.{read_down, write_down, same_down, placed_by, sent_below, does_above}
@@ -20,8 +19,9 @@ returns g c =
       | in_default w ↦ same_down by f _ n w.below-is w.in_default.not-Read w.in_default.not-Write
     ] in
     let back_is = placed_by _ _ _ _ (λ d e post. search rules) c.map_err.ensures.cases ∙ ap (λ p. placed p c.send.result) (c.place-place.ensures n) in
+    let below = sent_below _ _ w.hidden _ _ c.args.gap (sent f n) _ _ _ _ _ below_is back_is c.send.ensures.own c.send.ensures.does in
     record {
-      own = (refl, sent_below _ _ w.hidden _ _ c.args.gap (sent f n) _ _ _ _ _ below_is back_is c.send.ensures.own);
-      does = does_above w.hidden m _ w.some _ c.args.gap (sent f n) _ _ _ (sent_below (λ x. x) Does w.hidden m _ c.args.gap (sent f n) _ _ _ _ _ below_is back_is c.send.ensures.does);
+      own = (refl, below);
+      does = does_above w.hidden m _ w.page_left _ c.args.gap (sent f n) _ _ below.answer _ below.comes_back below.sends.does;
       same = (refl, c.send.ensures.same);
     }
