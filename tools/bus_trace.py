@@ -45,6 +45,8 @@ class Trace(Bench):
                 self.pulse(self.amount(length))
             case ["after", gap, *frame]:
                 self.send(self.amount(gap), frame)
+            case ["soonest", *frame]:
+                self.send(self.chip.least_gap(), frame)
             case _:
                 raise ValueError(case)
 

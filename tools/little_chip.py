@@ -35,13 +35,20 @@ class Chip:
 
     # ---- tests before a frame goes over the bus
 
+    def is_too_soon(self, gap):
+        spent = lasts(gap, self.khz)
+        return spent < TCPH or spent < self.due or self.low is not None and lasts(gap + self.low, self.khz) < TRC
+
+    def least_gap(self):
+        gap = 0
+        while self.is_too_soon(gap):
+            gap += 1
+        return gap
+
     def admit(self, gap, waking):
         if self.awake == waking:
             raise Refused(13)
-        spent = lasts(gap, self.khz)
-        if spent < TCPH or spent < self.due:
-            raise Refused(14)
-        if self.low is not None and lasts(gap + self.low, self.khz) < TRC:
+        if self.is_too_soon(gap):
             raise Refused(14)
 
     def admit_start(self, start):

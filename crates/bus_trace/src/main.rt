@@ -15,6 +15,7 @@
 //     after GAP read MRn
 //     after GAP write MRn with VALUE
 //     after GAP wake
+//     soonest ..                        any of these after the least gap, in place of after GAP
 //     pulse of LENGTH
 //     pages                             prints how many pages there are
 //     refreshed by the bottom half      prints which pages are

@@ -6,9 +6,10 @@ use std::fmt;
 
 #[derive(Clone, Copy)]
 pub enum Step<'a> {
-    // a frame after a gap of so many clocks; a read is of so many bytes
+    // a frame after a gap of so many clocks, or with none after the least gap; a read is of so many
+    // bytes
     Send {
-        gap: u32,
+        gap: Option<u32>,
         frame: Frame<'a>,
         bytes: u32,
     },
@@ -86,7 +87,15 @@ impl<'a> Step<'a> {
             ["after", gap, rest @ ..] => {
                 let (frame, bytes) = frame(rest, mask, amounts)?;
                 Some(Step::Send {
-                    gap: amounts.read(gap)?,
+                    gap: Some(amounts.read(gap)?),
+                    frame,
+                    bytes,
+                })
+            }
+            ["soonest", rest @ ..] => {
+                let (frame, bytes) = frame(rest, mask, amounts)?;
+                Some(Step::Send {
+                    gap: None,
                     frame,
                     bytes,
                 })

@@ -2,7 +2,7 @@
 use crate::amounts::Amounts;
 use crate::steps::Step;
 use anyhow::{Context, ensure};
-use chip::{Chip, Frame, Outcome, Reply, exchange};
+use chip::{Chip, Exact, Frame, Outcome, Reply, exchange, exchange_soonest};
 use fault::Fault;
 use register::Coverage;
 use std::alloc::Global;
@@ -42,16 +42,20 @@ fn announce(rt: &HostRuntime, gap: u32, frame: Frame<'_>, bytes: u32) -> io::Res
     }
 }
 
-fn send<C: Chip>(
+fn send<C: Exact>(
     rt: &HostRuntime,
     chip: &mut C,
-    gap: u32,
+    gap: Option<u32>,
     frame: Frame<'_>,
     bytes: u32,
 ) -> io::Result<()> {
-    announce(rt, gap, frame, bytes)?;
+    let least = chip.state().least_gap(&chip.config());
+    announce(rt, gap.unwrap_or(least), frame, bytes)?;
     let mut buffer = vec![in rt.alloc(); 0; bytes as usize]?;
-    let Outcome { answer, low } = exchange(chip, gap, frame, buffer.as_mut_slice());
+    let Outcome { answer, low } = match gap {
+        Some(gap) => exchange(chip, gap, frame, buffer.as_mut_slice()),
+        None => exchange_soonest(chip, frame, buffer.as_mut_slice()),
+    };
     // a frame that was refused did not go over the bus
     if low > 0 {
         print!(rt; ", low {low}")?;
@@ -90,7 +94,7 @@ fn refreshed<C: Chip>(rt: &HostRuntime, chip: &C) -> io::Result<()> {
     println!(rt; "")
 }
 
-fn play<C: Chip>(rt: &HostRuntime, chip: &mut C, step: Step<'_>) -> io::Result<()> {
+fn play<C: Exact>(rt: &HostRuntime, chip: &mut C, step: Step<'_>) -> io::Result<()> {
     match step {
         Step::Send { gap, frame, bytes } => send(rt, chip, gap, frame, bytes),
         Step::Pulse(length) => pulse(rt, chip, length),
@@ -115,7 +119,7 @@ fn mask_of(heap: Global, words: &[&str]) -> anyhow::Result<Vec<u8>> {
 }
 
 // One line of a list.
-fn play_line<C: Chip>(
+fn play_line<C: Exact>(
     rt: &HostRuntime,
     chip: &mut C,
     amounts: &Amounts,
@@ -132,7 +136,7 @@ fn play_line<C: Chip>(
 }
 
 // Plays a list of the input on a chip that is not woken yet.
-pub fn play_list<C: Chip>(
+pub fn play_list<C: Exact>(
     rt: &HostRuntime,
     chip: &mut C,
     input: &str,
