@@ -11,7 +11,7 @@ use Rattle.chip.specs.Exchanges.{least_gap_of, exchange_of, IsRunStep, Lengthens
 use Rattle.chip.specs.Free.{FreeByFrame}
 use Rattle.chip.specs.LowClocks.{low_for}
 use Rattle.chip.specs.Meaning.{Meaning, read_latency, most_low}
-use Rattle.chip.specs.Refused.{least_gap, refused}
+use Rattle.chip.specs.Refused.{refused}
 use Rattle.chip.specs.Runs.{refusal, IsWake, still, onward, frames_in, clocks_in, unless_refused, CountsFit, RisesBy}
 use Rattle.chip.specs.Sent.{sent, send_event, FitsBuffer, Sent, read, write, register_read, register_write, global_reset, Event, Answer}
 use Rattle.chip.specs.Taken.{ended, Taken, Judged, Sends}
@@ -82,13 +82,13 @@ module _ {X : Type 0} (meaning : X → Meaning) (gives : X → Event → X → T
       let e : true ≡ false = sym is ∙ wakes_not (meaning c).config (meaning c).state x.gap x.frame awake none in cc
 
   -- the counts rise by one frame and its low clocks
-  one_rises : (meaning c).state.phase ≡ Awake → CountsFit (meaning c) → RisesBy (meaning c) 1 x.low (meaning d)
+  pub one_rises : (meaning c).state.phase ≡ Awake → CountsFit (meaning c) → RisesBy (meaning c) 1 x.low (meaning d)
   one_rises awake fit =
       let rises = risen (meaning c) (meaning d) (event_of x) one.happens.does fit (never awake) in
       subst (λ k. RisesBy (meaning c) k x.low (meaning d)) (sym one_frame)
       (subst (λ k. RisesBy (meaning c) (frames_in (meaning c) (event_of x) (meaning d)) k (meaning d)) (sym low_is) rises)
 
-  one_short : x.low ≤ most_low (meaning c).config
+  pub one_short : x.low ≤ most_low (meaning c).config
   one_short =
       subst (λ k. k ≤ most_low (meaning c).config) (sym one.low)
       (short (meaning c) (meaning d) x.gap x.frame x.before x.after x.answer one.happens.does one.taken)

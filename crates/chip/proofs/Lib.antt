@@ -4,5 +4,6 @@ pub mod Bytes
 pub mod Counts
 pub mod Wires
 pub mod Outcomes
+pub mod Most
 pub mod Chains
 pub mod ExactChains

@@ -31,7 +31,7 @@ pub reset_refused_range : (k : Config) (s : State) (pulse : ℕ) (x : Refusal) �
 reset_refused_range k s pulse x e = first_listed _ x ((omega arith, omega arith), ((omega arith, omega arith), tt)) e
 
 -- where no test holds, the first does not, and none of the others does
-none_first : (t : Bool) (r : Refusal) (rest : List (Bool × Refusal)) → first_refusal ((t, r) ∷ rest) ≡ None → (t ≡ false) × (first_refusal rest ≡ None)
+pub none_first : (t : Bool) (r : Refusal) (rest : List (Bool × Refusal)) → first_refusal ((t, r) ∷ rest) ≡ None → (t ≡ false) × (first_refusal rest ≡ None)
 unfolding first_refusal
 none_first true r rest e = cc
 none_first false r rest e = (refl, e)

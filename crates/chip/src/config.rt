@@ -7,6 +7,10 @@ ghost use Rattle.chip.specs.Sizes.{largest_size};
 use clock::Clock;
 use frame::Make;
 
+/// The bytes of a scratch for one frame: the most of any frame that a chip takes, 2 × (532 − 3 − 3)
+/// of a write, tCEM being 532 clocks at most.
+pub const SCRATCH: usize = 1_052;
+
 /// What never changes of a chip: its make, its size and its clock numbers.
 #[derive(Clone, Copy, Debug, PartialEq, Eq)]
 pub struct Config {

@@ -10,7 +10,7 @@ mod interface;
 mod state;
 
 pub use bus_frame::{Frame, Reply};
-pub use config::Config;
+pub use config::{Config, SCRATCH};
 pub use exchanges::{Outcome, exchange, exchange_soonest};
 pub use interface::{Chip, Exact};
 pub use state::{Phase, State};

@@ -11,7 +11,7 @@ use Rattle.frame.specs.Low.{saturated}
 use Rattle.mask.specs.Masks.{masked, masked_among, MasksPast, HasBitPast}
 
 -- past the mask's end nothing is masked
-unmasked_past_end : (mask : List ℕ) (i : ℕ) → length mask ≤ i / 8 → masked mask i ≡ false
+pub unmasked_past_end : (mask : List ℕ) (i : ℕ) → length mask ≤ i / 8 → masked mask i ≡ false
 unmasked_past_end mask i h = ap (λ b. eqb (b / 2 ^ (i % 8) % 2) 1) (get_or_past mask (i / 8) 0 h) ∙ ap (λ x. eqb (x % 2) 1) (zero-div (2 ^ (i % 8)))
 
 -- how many of the low k bits of b are set

@@ -5,12 +5,8 @@ use Rattle.std.proofs.lemmas.Bool.{and_parts, eqb-true, lt-ltb}
 use Rattle.std.proofs.lemmas.Bool.{leb-false, le-leb, lt-leb, cond-true, cond-false}
 use Rattle.std.proofs.lemmas.Bool.Decides.{when_true, when_false}
 use Rattle.std.proofs.lemmas.List.FromFn.{length-map-range_with_len, get_or-map-range_with_len}
-use Rattle.clock.specs.Times.{clocks, tcem_ns, whole}
 use Rattle.clock.specs.declared.numbers.Clock.{Clock}
 use Rattle.clock.specs.declared.range.Latency.{Latency}
-use Rattle.clock.specs.declared.range.Latency.TheVariants.{Three, Four, Five}
-use Rattle.clock.specs.declared.range.TemperatureRange.{TemperatureRange}
-use Rattle.clock.specs.declared.range.TemperatureRange.TheVariants.{Normal, Extended}
 use Rattle.fault.specs.Refusals.{fault_at}
 use Rattle.fault.specs.declared.Fault.{Fault}
 use Rattle.fault.specs.declared.Refusal.{Refusal}
@@ -21,6 +17,7 @@ use Rattle.frame.specs.declared.burst.Burst.{Burst}
 use Rattle.frame.specs.declared.low.Transfer.TheVariants as transfer
 use Rattle.mask.specs.Masks.{masked, size}
 use Rattle.register.specs.Registers.{on_wire}
+use Rattle.chip.proofs.Most.{tcem_most, least_latency}
 use Rattle.chip.specs.Sent.{sent, send_event, Event, sending, Sent, read, write, register_read, register_write, global_reset, place, Answer, FitsBuffer}
 use Rattle.chip.specs.Refused.{takes, least_gap, bad_start, first_refusal, refused}
 use Rattle.chip.specs.Free.{FreeByFrame}
@@ -248,19 +245,6 @@ module _ (key : List ℕ) (m : Meaning) (b : Burst) (a : ℕ) (plain mixed mask 
   }
 
 -- ---- a write that is too long for any chip
-
--- CE# is never low for longer than 532 clocks
-most_in : (range : TemperatureRange) (khz : ℕ) → khz ≤ 133000 → whole (tcem_ns range) khz ≤ 532
-most_in Normal khz h = omega arith
-most_in Extended khz h = omega arith
-
-tcem_most : (k : Clock) → k.tcem ≤ 532
-tcem_most k = omega (arith, k.low, most_in k.range k.khz k.capped)
-
-least_latency : (l : Latency) → 3 ≤ clocks l
-least_latency Three = omega arith
-least_latency Four = omega arith
-least_latency Five = omega arith
 
 low_too_long : (k : Clock) (l : Latency) (n : ℕ) → 1052 < n → ltb k.tcem (low_clocks (transfer.Write l n)) ≡ true
 low_too_long k l n h = lt-ltb _ _ (omega (arith, tcem_most k, least_latency l))

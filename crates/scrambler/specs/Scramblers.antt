@@ -3,6 +3,7 @@ use Rattle.std.specs.Prelude.{◌≡◌, ℕ, ◌%◌, if◌then◌else◌, List
 use Rattle.std.specs.List.{range_with_len}
 use Rattle.chip.specs.Meaning.{Meaning}
 use Rattle.chip.specs.Runs.{Happens}
+use Rattle.chip.specs.Sizes.{most_bytes}
 use Rattle.chip.specs.Sent.{Sent, read, write, Event, sending, resetting, Answer}
 use Rattle.chip.specs.Taken.{address}
 
@@ -22,14 +23,10 @@ scrambler key m = record m { byte = λ a. bit_xor (m.byte a) (key_at key a) }
 abbrev pub combined : List ℕ → (ℕ → ℕ) → List ℕ → List ℕ
 combined key to bytes = map (λ i. bit_xor (slice_index bytes i) (key_at key (to i))) (range_with_len 0 (length bytes))
 
--- the bytes that a scrambler combines at once: no chip takes a longer write
-abbrev pub scratch_size : ℕ
-scratch_size = 1052
-
--- a frame as it goes down: the data of a write are combined
+-- a frame as it goes down: the data of a write are combined, where they are not too long for any chip
 abbrev pub combined_frame : List ℕ → Meaning → Sent → Sent
 combined_frame key m (write b a d mask) =
-    write b a (if nat_le (length d) scratch_size then combined key (address m.config m.state b a) d else d) mask
+    write b a (if nat_le (length d) most_bytes then combined key (address m.config m.state b a) d else d) mask
 combined_frame key m f = f
 
 -- the buffer as it comes back, from a chip that now means n: the bytes of an answered read are combined

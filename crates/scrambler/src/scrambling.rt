@@ -3,13 +3,10 @@
 ghost use Rattle.std.specs.Prelude.{◌≡◌};
 ghost use Rattle.chip.specs.Taken.{address};
 
-use chip::{Chip, Config, Exact, Frame, Reply, State};
+use chip::{Chip, Config, Exact, Frame, Reply, SCRATCH, State};
 use fault::Fault;
 use frame::Burst;
 use register::{Coverage, on_wire};
-
-/// The most bytes of a write that any chip takes: 2 × (532 − 3 − 3), tCEM being 532 clocks at most.
-const SCRATCH: usize = 1_052;
 
 /// A chip whose bytes are those of the chip below, each combined by exclusive or with the key byte of
 /// its own address modulo 16.
