@@ -1,0 +1,16 @@
+pub mod Accepted
+pub mod ActLists
+pub mod Carries
+pub mod Frames
+pub mod Laid
+pub mod Loops
+pub mod MaskBits
+pub mod Performs
+pub mod Ranges
+pub mod MemoryFrames
+pub mod Pieces
+pub mod PiecesRead
+pub mod PiecesWritten
+pub mod PlanTasks
+pub mod Ready
+pub mod Sends

@@ -1,0 +1,9 @@
+pub mod Tests
+pub mod Requests
+pub mod Plans
+pub mod Acts
+pub mod Answers
+pub mod Serves
+pub mod Carried
+pub mod Payloads
+pub mod Wakes
