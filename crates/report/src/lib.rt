@@ -9,6 +9,6 @@ mod words;
 
 pub use first::{FirstLine, first_line};
 pub use hex::{Address, HexByte, HexBytes, digits};
-pub use line::{Cost, Line};
+pub use line::Line;
 pub use refused::Refused;
 pub use words::{Listing, Words};

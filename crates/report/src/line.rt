@@ -6,21 +6,19 @@ use crate::hex::{Address, HexByte, HexBytes};
 use crate::refused::Refused;
 use fault::Fault;
 use mask::masked_bytes;
+use port::Traffic;
 use std::fmt;
 
-/// What a command took: its frames, and the sum of their low clocks.
+// What a command took: its frames, and the sum of their low clocks, with a blank before each.
 #[derive(Clone, Copy, Debug, PartialEq, Eq)]
-pub struct Cost {
-    pub frames: u64,
-    pub clocks: u64,
-}
+struct Cost(Traffic);
 
-/// With a blank before each of the two.
 impl fmt::Display for Cost {
-    ghost output = { λ c. Some (cost_part c) };
+    ghost output = { λ c. Some (cost_part c.0) };
 
     fn fmt<W: fmt::Write>(&self, f: &mut fmt::Formatter<W>) -> fmt::Result {
-        write!(f, " f={} c={}", self.frames, self.clocks)
+        let Traffic { frames, clocks } = self.0;
+        write!(f, " f={frames} c={clocks}")
     }
 }
 
@@ -46,41 +44,41 @@ impl fmt::Display for Bytes<'_> {
     }
 }
 
-/// What a command did and what it took, or its refusal. Types, coverages and registers are the bytes of
-/// the script, which a line repeats as numbers.
+/// What a command did and what it took, or its refusal. Types, coverages and registers are the
+/// bytes of the script, which a line repeats as numbers.
 #[derive(Clone, Copy, Debug, PartialEq, Eq)]
 pub enum Line<'a> {
     Read {
         address: u32,
         data: &'a [u8],
-        cost: Cost,
+        traffic: Traffic,
     },
     Write {
         address: u32,
         length: u16,
         mask: &'a [u8],
-        cost: Cost,
+        traffic: Traffic,
     },
     Fill {
         address: u32,
         data: &'a [u8],
-        cost: Cost,
+        traffic: Traffic,
     },
     LatencyType {
         value: u8,
-        cost: Cost,
+        traffic: Traffic,
     },
     Coverage {
         code: u8,
-        cost: Cost,
+        traffic: Traffic,
     },
     Register {
         number: u8,
         byte: u8,
-        cost: Cost,
+        traffic: Traffic,
     },
     Reset {
-        cost: Cost,
+        traffic: Traffic,
     },
     /// The place counts from behind the opening and its key.
     Refused(Fault<usize>),
@@ -94,29 +92,36 @@ impl fmt::Display for Line<'_> {
             Line::Read {
                 address,
                 data,
-                cost,
-            } => write!(f, "R {}{cost}", Bytes { address, data }),
+                traffic,
+            } => write!(f, "R {}{}", Bytes { address, data }, Cost(traffic)),
             Line::Write {
                 address,
                 length,
                 mask,
-                cost,
+                traffic,
             } => {
                 // a set bit is a byte that is not written
                 let written = u64::from(length).saturating_sub(masked_bytes(mask));
-                write!(f, "W {} {length} w={written}{cost}", Address(address))
+                write!(
+                    f,
+                    "W {} {length} w={written}{}",
+                    Address(address),
+                    Cost(traffic)
+                )
             }
             Line::Fill {
                 address,
                 data,
-                cost,
-            } => write!(f, "F {}{cost}", Bytes { address, data }),
-            Line::LatencyType { value, cost } => write!(f, "L {value}{cost}"),
-            Line::Coverage { code, cost } => write!(f, "P {code}{cost}"),
-            Line::Register { number, byte, cost } => {
-                write!(f, "Q {number} {}{cost}", HexByte(byte))
-            }
-            Line::Reset { cost } => write!(f, "Z{cost}"),
+                traffic,
+            } => write!(f, "F {}{}", Bytes { address, data }, Cost(traffic)),
+            Line::LatencyType { value, traffic } => write!(f, "L {value}{}", Cost(traffic)),
+            Line::Coverage { code, traffic } => write!(f, "P {code}{}", Cost(traffic)),
+            Line::Register {
+                number,
+                byte,
+                traffic,
+            } => write!(f, "Q {number} {}{}", HexByte(byte), Cost(traffic)),
+            Line::Reset { traffic } => write!(f, "Z{}", Cost(traffic)),
             Line::Refused(fault) => write!(f, "{}", Refused(fault)),
         }
     }

@@ -1,5 +1,6 @@
 //! Lines at the ends of each field. An address above six digits shows its low three bytes.
-use report::{Cost, Line};
+use port::Traffic;
+use report::Line;
 use std::io::Write;
 use std::{array, io};
 
@@ -14,7 +15,7 @@ const ADDRESSES: [u32; 8] = [
     u32::MAX,
 ];
 
-const ONE: Cost = Cost {
+const ONE: Traffic = Traffic {
     frames: 1,
     clocks: 1,
 };
@@ -29,11 +30,11 @@ fn count_up<const N: usize>() -> [u8; N] {
 }
 
 fn read<W: Write>(out: &mut W, address: u32, data: &[u8]) -> io::Result<()> {
-    let cost = ONE;
+    let traffic = ONE;
     let line = Line::Read {
         address,
         data,
-        cost,
+        traffic,
     };
     writeln!(out, "{line}")
 }
@@ -61,12 +62,12 @@ pub fn reads<W: Write>(out: &mut W) -> io::Result<()> {
 }
 
 fn write<W: Write>(out: &mut W, address: u32, length: u16, mask: &[u8]) -> io::Result<()> {
-    let cost = ONE;
+    let traffic = ONE;
     let line = Line::Write {
         address,
         length,
         mask,
-        cost,
+        traffic,
     };
     writeln!(out, "{line}")
 }
@@ -96,11 +97,11 @@ pub fn fills<W: Write>(out: &mut W) -> io::Result<()> {
     let line = count_up::<64>();
     for address in ADDRESSES {
         for data in [&line[..16], &line[..32], &line[..]] {
-            let cost = ONE;
+            let traffic = ONE;
             let line = Line::Fill {
                 address,
                 data,
-                cost,
+                traffic,
             };
             writeln!(out, "{line}")?;
         }
@@ -109,21 +110,29 @@ pub fn fills<W: Write>(out: &mut W) -> io::Result<()> {
 }
 
 pub fn settings<W: Write>(out: &mut W) -> io::Result<()> {
-    let cost = ONE;
+    let traffic = ONE;
     for value in [0, 1, u8::MAX] {
-        writeln!(out, "{}", Line::LatencyType { value, cost })?;
+        writeln!(out, "{}", Line::LatencyType { value, traffic })?;
     }
     for code in [0, 1, 2, 3, 4, 5, 6, 7, u8::MAX] {
-        writeln!(out, "{}", Line::Coverage { code, cost })?;
+        writeln!(out, "{}", Line::Coverage { code, traffic })?;
     }
     Ok(())
 }
 
 pub fn registers<W: Write>(out: &mut W) -> io::Result<()> {
-    let cost = ONE;
+    let traffic = ONE;
     for number in [0, 1, 2, 3, 4, 8, u8::MAX] {
         for byte in [0x00, 0x09, 0x0a, 0x90, 0xff] {
-            writeln!(out, "{}", Line::Register { number, byte, cost })?;
+            writeln!(
+                out,
+                "{}",
+                Line::Register {
+                    number,
+                    byte,
+                    traffic
+                }
+            )?;
         }
     }
     Ok(())
@@ -132,9 +141,9 @@ pub fn registers<W: Write>(out: &mut W) -> io::Result<()> {
 pub fn costs<W: Write>(out: &mut W) -> io::Result<()> {
     for frames in [0, 1, 10, u64::MAX] {
         for clocks in [0, 1, 10, u64::MAX] {
-            let cost = Cost { frames, clocks };
-            writeln!(out, "{}", Line::Reset { cost })?;
-            writeln!(out, "{}", Line::LatencyType { value: 1, cost })?;
+            let traffic = Traffic { frames, clocks };
+            writeln!(out, "{}", Line::Reset { traffic })?;
+            writeln!(out, "{}", Line::LatencyType { value: 1, traffic })?;
         }
     }
     Ok(())
