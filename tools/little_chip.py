@@ -1,8 +1,8 @@
-"""A little chip for the expected output of bus_trace and refusal_table: times in exact fractions, a dictionary of
-bytes, bursts by stepping an address counter, and a window and a scrambler that move addresses and combine bytes one
-at a time."""
+"""A little chip for the expected output of bus_trace and refusal_table and the reports of run_table: times in exact
+fractions, a dictionary of bytes, bursts by stepping an address counter, and a window and a scrambler that move
+addresses and combine bytes one at a time."""
 from sheet import (AFTER_RESET, BLOCKS, PAGE, READ_CODES, TPU, TCPH, TRC, TRP, TRST, WRITE_CODES, block_length,
-                   keeps_tcem, lasts, low_clocks, mask_bits, mask_size, taken, walk)
+                   keeps_tcem, lasts, least, low_clocks, mask_bits, mask_size, taken, walk)
 
 
 class Refused(Exception):
@@ -11,6 +11,7 @@ class Refused(Exception):
 
 class Chip:
     def __init__(self, make, khz, clock_range, pages, word, strobes):
+        self.make = make
         self.khz = khz
         self.range = clock_range
         self.page = PAGE[make]
@@ -40,10 +41,7 @@ class Chip:
         return spent < TCPH or spent < self.due or self.low is not None and lasts(gap + self.low, self.khz) < TRC
 
     def least_gap(self):
-        gap = 0
-        while self.is_too_soon(gap):
-            gap += 1
-        return gap
+        return least(lambda gap: not self.is_too_soon(gap))
 
     def admit(self, gap, waking):
         if self.awake == waking:
