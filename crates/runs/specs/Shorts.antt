@@ -29,7 +29,7 @@ pub record IsShort (k : Config) (low : ℕ) : Type 0 where
   pub clocks : low ≤ most_low k
   pub lasts : LastsAtMost low k.clock.khz (tcem_ns k.clock.range)
 
--- another lawful split of n bytes from a: pieces of these lengths, one after the other
+-- a lawful split of n bytes from a: pieces of these lengths, one after the other
 abbrev pub IsSplit : Direction → Config → ℕ → ℕ → List ℕ → Type 0
 IsSplit d k a n lengths =
     IsLawful (fits (page k.make) (limit d k.clock.tcem (latency d k.clock.lc k.clock.wl)))
@@ -61,12 +61,12 @@ IsSplitInto k reset frames = Unit {0}
 abbrev pub IsForeseen : Transaction → Type 0
 IsForeseen t = IfSome (refusal_number t.answer) (λ k. ((6 ≤ k) × (k ≤ 12) × (t.acts ≡ [])) ⊎ (k ≡ 19))
 
--- of all that was done since the wake frame, and of each transaction
+-- of all that was done from the wake frame on, and of each transaction
 pub record AreShortAndFew (m : Meaning) (woke : List Act) (o : Meaning) (ts : List Transaction)
     (n : Meaning) : Type 0 where
   -- each frame, those of wake and lost ones too
   pub short : All (λ act. IsShort m.config (low_in act)) (woke ++ acts_of ts)
-  -- and low clocks last at most tCEM exactly where they are at most this many
+  -- low clocks last at most tCEM exactly where they are at most those that fit whole into it
   pub exactly : (low : ℕ)
       → (low ≤ most_low m.config) ↔ LastsAtMost low m.config.clock.khz (tcem_ns m.config.clock.range)
   -- the chip's counts rise by their number and their low clocks, until they are saturated
