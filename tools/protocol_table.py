@@ -368,7 +368,7 @@ def piece_rows():
         splitting = Splitting(direction, make, clock_range, khz, latency)
         page, limit = splitting.page, splitting.limit
         for start, end in ((0, limit), (0, limit + 2), (2, page + 2), (page - 200, page + 600),
-                           (8, 8), (U32 - 31, U32 - 1)):
+                           (8, 4), (8, 8), (U32 - 31, U32 - 1)):
             count = splitting.fewest(start, end) if start < end else 0
             assert count == len(splitting.pieces(start, end))
             row("pieces", *splitting.words, start, end,

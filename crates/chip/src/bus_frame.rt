@@ -40,6 +40,8 @@ pub enum Reply {
     Register(u8),
 }
 
+// What is asked of a frame before it is sent is inlined: where its kind is known, what concerns that
+// kind alone is left.
 impl Frame<'_> {
     ghost use Rattle.chip.specs.LowClocks.{transfer_of, low_for};
     ghost use Rattle.chip.specs.Refused.{bad_start, bad_count, too_long, bad_register, unfit};
@@ -58,6 +60,7 @@ impl Frame<'_> {
     }
 
     // Whether it is a memory frame that starts at an odd address, or at or past the size.
+    #[inline(always)]
     fn bad_start(self, config: &Config) -> bool
         ensures { (n : ℕ) → result ≡ bad_start config.now (sent self.entry n) }
     {
@@ -70,6 +73,7 @@ impl Frame<'_> {
     }
 
     // Whether it has no bytes, or is a write of an odd number of bytes or unlike its mask.
+    #[inline(always)]
     fn bad_count(self, room: usize) -> bool
         ensures { result ≡ bad_count (sent self.entry room) }
     {
@@ -83,6 +87,7 @@ impl Frame<'_> {
     }
 
     // What goes over the bus, a memory read with this latency.
+    #[inline(always)]
     fn transfer(self, state: &State, room: usize, latency: u32) -> Transfer
         ensures { result ≡ transfer_of state.now (sent self.entry room) latency }
     {
@@ -105,6 +110,7 @@ impl Frame<'_> {
 
     /// How many clocks CE# is low for it, a memory read with this latency. A read has as many bytes
     /// as its buffer has room.
+    #[inline(always)]
     pub fn low_clocks(self, config: &Config, state: &State, room: usize, latency: u32) -> u64
         ensures { result ≡ low_for config.now state.now (sent self.entry room) latency }
     {
@@ -112,6 +118,7 @@ impl Frame<'_> {
     }
 
     // Whether CE# would be low for longer than tCEM, a memory read counted with 2 LC.
+    #[inline(always)]
     fn too_long(self, config: &Config, state: &State, room: usize) -> bool
         ensures { result ≡ too_long config.now state.now (sent self.entry room) }
     {
@@ -120,6 +127,7 @@ impl Frame<'_> {
     }
 
     // Whether the register cannot be read, or written with this value.
+    #[inline(always)]
     fn bad_register(self) -> bool
         ensures { (n : ℕ) → result ≡ bad_register (sent self.entry n) }
     {
@@ -132,6 +140,7 @@ impl Frame<'_> {
 
     /// What refuses a frame that the phase takes: the first of 14, 15, 16, 17 and 18 that applies,
     /// if any does. 13 is the chip's.
+    #[inline(always)]
     #[tactic(auto, unfolding(crate::specs::Refused::first_refusal))]
     pub fn judge(self, config: &Config, state: &State, gap: u32, room: usize) -> Result<(), Fault>
         ensures fit { IsOk result ↔ (unfit config.now state.now gap (sent self.entry room) ≡ None) }

@@ -1,8 +1,9 @@
 //! What a model is made of, and what it does at a frame and at a reset.
 
-ghost use Rattle.std.specs.Prelude.{◌≡◌, ◌↔◌, ◌+◌, ◌<◌, length, if◌then◌else◌, vec_len, IsTrue};
+ghost use Rattle.std.specs.Prelude.{◌≡◌, ◌↔◌, ℕ, ◌+◌, ◌<◌, length, if◌then◌else◌, vec_len, IsTrue};
+ghost use Rattle.chip.specs.LowClocks.{low_for};
 ghost use Rattle.chip.specs.Meaning.{size, RefreshesAll};
-ghost use Rattle.chip.specs.Sent.{resetting, send_event};
+ghost use Rattle.chip.specs.Sent.{sent, read, resetting, send_event};
 ghost use Rattle.chip.specs.Taken.{address, counted, register, with_register};
 
 use crate::unwoken::{reset_value, unwoken_state};
@@ -30,14 +31,14 @@ pub struct Device {
     ghost in_word: { variable_reads < 32 },
 }
 
-/// The strobe and the latency that the next frame comes with.
+/// The strobe that the next frame comes with, and the latency of a read.
 #[derive(Clone, Copy)]
 struct NextFrame {
     /// The strobe is there once the frame has started.
     strobe: bool,
-    /// A read would be of variable latency, and find the strobe.
+    /// It is a read of variable latency, and finds the strobe.
     variable: bool,
-    /// The latency of a read, in clocks.
+    /// The latency of a read, in clocks; 0 for a frame that is none.
     latency: u32,
 }
 
@@ -73,29 +74,45 @@ impl Device {
         count == 0 || (span.from <= from && end <= u64::from(span.to))
     }
 
-    // Which strobe and which latency come with the next frame: the strobe goes once as many reads
-    // are answered as the strobe count says, and a variable read takes LC where its bit of the
-    // refresh word is clear.
-    fn next_frame(&self) -> NextFrame
+    // Which strobe comes with the next frame, and which latency with a read: the strobe goes once as
+    // many reads are answered as the strobe count says, and a variable read takes LC where its bit
+    // of the refresh word is clear.
+    fn next_frame(&self, frame: Frame<'_>) -> NextFrame
         ensures strobe { result.strobe ≡ strobe_stays (contents self.now) }
-        ensures variable { result.variable ≡ is_variable (contents self.now) }
-        ensures latency { result.latency ≡ latency (contents self.now) }
+        ensures variable { (b : Burst) (a n : ℕ) → sent frame.entry n ≡ read b a n
+            → result.variable ≡ is_variable (contents self.now) }
+        ensures low { (n : ℕ)
+            → low_for self.now.config self.now.state (sent frame.entry n) result.latency
+            ≡ low_for self.now.config self.now.state (sent frame.entry n)
+            (latency (contents self.now)) }
     {
         let strobe = self.state.strobe
             && (self.strobe_count == 0 || self.answered_reads < u32::from(self.strobe_count));
-        let mr0 = Mr0::from(self.state.mr0);
-        let variable = strobe && matches!(mr0.latency_type, LatencyType::Variable);
-        let least = mr0.lc.clocks();
-        let meets_refresh = (self.refresh_word >> self.variable_reads) & 1 == 1;
-        let latency = if variable && !meets_refresh {
-            least
-        } else {
-            2 * least
-        };
-        NextFrame {
-            strobe,
-            variable,
-            latency,
+        match frame {
+            Frame::Read { .. } => {
+                let mr0 = Mr0::from(self.state.mr0);
+                let variable = strobe && matches!(mr0.latency_type, LatencyType::Variable);
+                let least = mr0.lc.clocks();
+                let meets_refresh = (self.refresh_word >> self.variable_reads) & 1 == 1;
+                let latency = if variable && !meets_refresh {
+                    least
+                } else {
+                    2 * least
+                };
+                NextFrame {
+                    strobe,
+                    variable,
+                    latency,
+                }
+            }
+            Frame::Write { .. }
+            | Frame::RegisterRead { .. }
+            | Frame::RegisterWrite { .. }
+            | Frame::GlobalReset => NextFrame {
+                strobe,
+                variable: false,
+                latency: 0,
+            },
         }
     }
 
@@ -190,14 +207,13 @@ impl Device {
             (send_event gap frame.entry buffer.old result buffer.new) (contents self.new) }
     {
         let room = buffer.len();
-        // 14 to 18; an arm asks for them where the phase takes the frame, so that 13 goes first
-        let judged = frame.judge(&self.config, &self.state, gap, room);
-        let next = self.next_frame();
-        let low = frame.low_clocks(&self.config, &self.state, room, next.latency);
+        let next = self.next_frame(frame);
+        // 14 to 18 are asked for where the phase takes the frame, so that 13 goes first
         match (self.state.phase, frame) {
             // the registers are those of the table, and counting begins
             (Phase::Unwoken, Frame::GlobalReset) => {
-                judged?;
+                frame.judge(&self.config, &self.state, gap, room)?;
+                let low = frame.low_clocks(&self.config, &self.state, room, next.latency);
                 self.state = State {
                     phase: Phase::Awake,
                     strobe: next.strobe,
@@ -210,7 +226,8 @@ impl Device {
                 Ok(Reply::Done)
             }
             (Phase::Awake, Frame::Read { burst, start }) => {
-                judged?;
+                frame.judge(&self.config, &self.state, gap, room)?;
+                let low = frame.low_clocks(&self.config, &self.state, room, next.latency);
                 self.count(low, next.strobe);
                 if !next.strobe {
                     return Err(Refusal::NoStrobe(0).at(start));
@@ -228,13 +245,15 @@ impl Device {
                     mask,
                 },
             ) => {
-                judged?;
+                frame.judge(&self.config, &self.state, gap, room)?;
+                let low = frame.low_clocks(&self.config, &self.state, room, next.latency);
                 self.count(low, next.strobe);
                 self.put(burst, start, data, mask);
                 Ok(Reply::Done)
             }
             (Phase::Awake, Frame::RegisterRead { number }) => {
-                judged?;
+                frame.judge(&self.config, &self.state, gap, room)?;
+                let low = frame.low_clocks(&self.config, &self.state, room, next.latency);
                 self.count(low, next.strobe);
                 if !next.strobe {
                     return Err(Refusal::NoStrobe(0).at(0));
@@ -243,7 +262,8 @@ impl Device {
                 Ok(Reply::Register(self.register(number)))
             }
             (Phase::Awake, Frame::RegisterWrite { number, value }) => {
-                judged?;
+                frame.judge(&self.config, &self.state, gap, room)?;
+                let low = frame.low_clocks(&self.config, &self.state, room, next.latency);
                 self.count(low, next.strobe);
                 self.set_register(number, value);
                 Ok(Reply::Done)

@@ -45,12 +45,10 @@ pub fn pieces(heap: Global, words: &[Word]) -> Option<String> {
     };
     let setup = Setup::of(setup)?;
     let splitter = Splitter::new(setup.direction, setup.make, &setup.clock, *latency);
-    if from > to {
-        return None;
-    }
+    // of a range that ends before its start nothing is left
     let span = Span {
         from: *from,
-        to: *to,
+        to: (*to).max(*from),
     };
     let limit = Item::Number(splitter.limit);
     let next = Item::Number(splitter.next_length(span));
